@@ -1,0 +1,132 @@
+-- The M-th lower end of ln or e^ at a signed fraction s lies below the N-th upper end at t, wherever s ≤ t and both are there:
+-- `ln-below` and `exp-below`. Assumes nothing.
+use Prim.Native.Nat.{ℕ, suc, _+_, _*_, _-_, _≤_}
+use mathlib.Core.Path.{_≡_, ap}
+use mathlib.Core.Option.{Option, none, some}
+use native.Mathlib.Nat.{mul-le-mul-right}
+use native.Mathlib.Decide.{decLe}
+use native.Mathlib.Omega.{arith}
+use Rattle.exact.specs.Fraction.{_⊞_, Ratio, _≼_, Above0, whole, _⊕_, _⊖_, recip, power, sum, _⊗_, Frac, _⊑_, Positive, zeroF, neg, ofRatio, magnitude, oneF}
+use Rattle.exact.specs.Series.{factorial, expLower, expUpper, expTerm}
+use Rattle.exact.specs.Ends.{expLowerAt, expLowerBy, expUpperAt, expUpperBy, expUpperIf, expUpperOf, lnLowerAt, lnLowerBy, lnUpperAt, lnUpperBy, oneOverIf, oneOverOf, signed}
+use Rattle.exact.specs.laws.Decide.{decF, decAbove0}
+use Rattle.exact.specs.laws.Divisors.{magnitude-above, one-magnitude, one-recip}
+use Rattle.exact.specs.laws.Exp.{exp-lower-upper, exp-lower-mono}
+use Rattle.exact.specs.laws.Frac.{⊑-trans, neg-anti}
+use Rattle.exact.specs.laws.Ln.{ln-lower-upper, ln-lower-mono}
+use Rattle.exact.specs.laws.Ratio.{≼-trans, recip-anti}
+
+-- where both are there, the first is at most the second
+abbrev pub Below : Option Frac → Option Frac → Type 0
+Below none y = Unit {0}
+Below (some a) none = Unit {0}
+Below (some a) (some b) = a ⊑ b
+
+-- Fractions as signed fractions
+
+pub ofRatio-mono : {x y : Ratio} → x ≼ y → ofRatio x ⊑ ofRatio y
+unfolding ofRatio
+ofRatio-mono h = omega arith
+
+pub neg-below : (x y : Ratio) → neg (ofRatio x) ⊑ ofRatio y
+unfolding ofRatio neg
+neg-below x y = omega arith
+
+pub magnitude-mono : {x y : Frac} → x ⊑ y → magnitude x ≼ magnitude y
+unfolding magnitude
+magnitude-mono {x} {y} h = record { cross = go (decLe (x .minus) (x .plus)) }
+  where
+    core : (i j : ℕ) → i + x .minus ≡ x .plus → y .plus ≤ j + y .minus → i * y .den ≤ j * x .den
+    core i j e f = omega (arith, ap (λ m. m * y .den) e, mul-le-mul-right (x .den) f, h .cross)
+
+    go : Dec (x .minus ≤ x .plus) → (x .plus - x .minus) * y .den ≤ (y .plus - y .minus) * x .den
+    go (yes l) = core (x .plus - x .minus) (y .plus - y .minus) (omega arith) (omega arith)
+    go (no l) = let z : x .plus - x .minus ≡ 0 = omega arith in rw z (omega arith)
+
+-- t ≤ s + δ, from 0 up
+pub above-moves : (s t : Frac) (δ : Ratio) → zeroF ⊑ s → zeroF ⊑ t → t ⊑ s ⊞ ofRatio δ → magnitude t ≼ magnitude s ⊕ δ
+unfolding zeroF magnitude ofRatio _⊕_ _⊞_
+above-moves s t δ h k l =
+    let e : (s .plus - s .minus) + s .minus ≡ s .plus = omega arith in
+    let f : (t .plus - t .minus) + t .minus ≡ t .plus = omega arith in
+    omega (arith, l .cross, ap (λ i. i * (t .den * δ .den)) e, ap (λ i. i * (s .den * δ .den)) f)
+
+pub positive-zero : {x : Frac} → Positive x → zeroF ⊑ x
+unfolding zeroF
+positive-zero h = omega arith
+
+-- ln
+
+pub ln-below : (s t : Frac) (h : Positive s) (k : Positive t) → s ⊑ t → (m n : ℕ) → lnLowerAt s h m ⊑ lnUpperAt t k n
+unfolding lnLowerAt lnUpperAt lnLowerBy lnUpperBy
+ln-below s t h k l m n = go (decF oneF s) (decF oneF t)
+  where
+    go : (d : Dec (oneF ⊑ s)) (e : Dec (oneF ⊑ t)) → lnLowerBy s h d m ⊑ lnUpperBy t k e n
+    go (yes i) (yes j) =
+        ofRatio-mono (≼-trans (ln-lower-mono _ _ (one-magnitude i) (magnitude-mono l) m) (ln-lower-upper (magnitude t) (one-magnitude j) m n))
+    go (yes i) (no j) = absurd (j (⊑-trans i l))
+    go (no i) (yes j) = neg-below _ _
+    go (no i) (no j) =
+        neg-anti (ofRatio-mono
+        (≼-trans
+        (ln-lower-mono _ _ (one-recip t (magnitude-above t k) j) (recip-anti (magnitude-above s h) (magnitude-above t k) (magnitude-mono l)) n)
+        (ln-lower-upper _ (one-recip s (magnitude-above s h) i) n m)))
+
+-- e^
+
+pub first-term : (y : Ratio) → whole 1 ≼ expLower y 1
+unfolding expLower expTerm sum power factorial whole _⊕_ _⊗_
+first-term y = omega arith
+
+pub one-below-exp : (y : Ratio) (n : ℕ) (h : Above0 (whole (suc n) ⊖ y)) → whole 1 ≼ expUpper y n h
+one-below-exp y n h = ≼-trans (first-term y) (exp-lower-upper y 1 n h)
+
+pub recip-below-one : (x : Ratio) (h : Above0 x) → whole 1 ≼ x → recip x h ≼ whole 1
+unfolding whole recip
+recip-below-one x h l = omega arith
+
+-- 0 ≤ s ≤ t
+above-above : {x y : Ratio} → x ≼ y → (m n : ℕ) (d : Dec (Above0 (whole (suc n) ⊖ y)))
+    → Below (some (ofRatio (expLower x m))) (signed (expUpperIf y n d))
+unfolding expUpperIf signed
+above-above l m n (yes h) = ofRatio-mono (≼-trans (exp-lower-mono l m) (exp-lower-upper _ m n h))
+above-above l m n (no h) = tt
+
+-- s < 0 ≤ t: 1 lies between
+recip-upper : (x y : Ratio) (d : Dec (Above0 x)) (n : ℕ) (e : Dec (Above0 (whole (suc n) ⊖ y))) → whole 1 ≼ x
+    → Below (signed (oneOverIf x d)) (signed (expUpperIf y n e))
+unfolding expUpperIf oneOverIf signed
+recip-upper x y (yes h) n (yes k) l = ofRatio-mono (≼-trans (recip-below-one x h l) (one-below-exp y n k))
+recip-upper x y (yes h) n (no k) l = tt
+recip-upper x y (no h) n e l = tt
+
+below-above : (x y : Ratio) (m n : ℕ) (d : Dec (Above0 (whole (suc m) ⊖ x))) (e : Dec (Above0 (whole (suc n) ⊖ y)))
+    → Below (signed (oneOverOf (expUpperIf x m d))) (signed (expUpperIf y n e))
+unfolding expUpperIf oneOverOf signed
+below-above x y m n (yes h) e = recip-upper (expUpper x m h) y (decAbove0 (expUpper x m h)) n e (one-below-exp x m h)
+below-above x y m n (no h) e = tt
+
+-- s ≤ t < 0
+recip-recip : (x y : Ratio) (d : Dec (Above0 x)) (e : Dec (Above0 y)) → y ≼ x → Below (signed (oneOverIf x d)) (signed (oneOverIf y e))
+unfolding oneOverIf signed
+recip-recip x y (yes h) (yes k) l = ofRatio-mono (recip-anti k h l)
+recip-recip x y (yes h) (no k) l = tt
+recip-recip x y (no h) e l = tt
+
+below-below : {x y : Ratio} → y ≼ x → (m n : ℕ) (d : Dec (Above0 (whole (suc m) ⊖ x)))
+    → Below (signed (oneOverOf (expUpperIf x m d))) (signed (oneOverOf (some (expLower y n))))
+unfolding expUpperIf oneOverOf signed
+below-below {x} {y} l m n (yes h) =
+    recip-recip (expUpper x m h) (expLower y n) (decAbove0 (expUpper x m h)) (decAbove0 (expLower y n))
+    (≼-trans (exp-lower-mono l n) (exp-lower-upper x n m h))
+below-below l m n (no h) = tt
+
+pub exp-below : (s t : Frac) → s ⊑ t → (m n : ℕ) → Below (expLowerAt s m) (expUpperAt t n)
+unfolding expLowerAt expUpperAt expLowerBy expUpperBy expUpperOf
+exp-below s t l m n = go (decF zeroF s) (decF zeroF t)
+  where
+    go : (d : Dec (zeroF ⊑ s)) (e : Dec (zeroF ⊑ t)) → Below (expLowerBy s d m) (expUpperBy t e n)
+    go (yes i) (yes j) = above-above (magnitude-mono l) m n (decAbove0 _)
+    go (yes i) (no j) = absurd (j (⊑-trans i l))
+    go (no i) (yes j) = below-above _ _ m n (decAbove0 _) (decAbove0 _)
+    go (no i) (no j) = below-below (magnitude-mono (neg-anti l)) m n (decAbove0 _)

@@ -1,0 +1,132 @@
+-- One lemma for each operation of a formula: what a program shows of the interval K that it computes from I and J, so that K
+-- contains the N-th bracket of the result. With `contains-holds` at the end, K then holds the exact value.
+-- Assumes nothing.
+use Prim.Native.Nat.{ℕ, suc}
+use mathlib.Core.Path.{_≡_, subst₂}
+use mathlib.Core.Option.{Option, none, some}
+use Rattle.exact.specs.Fraction.{Frac, _⊑_, Positive, zeroF, _⊞_, _⊟_, _⊠_, inverse, quotient}
+use Rattle.exact.specs.Bracket.{smaller, Bracket, _∈_, overPairs, quotients}
+use Rattle.exact.specs.Ends.{lnLowerAt, lnUpperAt, expLowerAt, expUpperAt}
+use Rattle.exact.specs.Formula.{Formula, const, add, sub, mul, div, least, ln, exp, bracketAt, lift, _>>_, ends, lnIf, lnB, expB, quotientB, quotientIf}
+use Rattle.exact.specs.laws.Containment.{Inside, inside-wider, then-inside, ln-isotone, exp-isotone}
+use Rattle.exact.specs.laws.Decide.{decPositive}
+use Rattle.exact.specs.laws.Frac.{positive-mono, inverse-anti, ⊑-trans, ⊞-mono, ⊟-mono, ⊠-mono, ⊠-comm, smaller-left, smaller-right, smaller-glb}
+use Rattle.exact.specs.laws.Meeting.{Meets, meeting}
+use Rattle.exact.specs.laws.Pairs.{outward-in, lo-in, hi-in}
+
+-- K contains `op` of every point of I and every point of J
+pub binary : {op : Frac → Frac → Frac} (x y : Option Bracket) {I J K : Bracket} → Meets x x → Meets y y → Inside x (some I) → Inside y (some J)
+    → ((p q : Frac) → p ∈ I → q ∈ J → op p q ∈ K) → Inside (lift (overPairs op) x y) (some K)
+unfolding lift overPairs
+binary none y v w h k r = h
+binary (some A) none v w h k r = k
+binary (some A) (some B) v w h k r =
+    let a = lo-in h v in
+    let b = hi-in h v in
+    let c = lo-in k w in
+    let d = hi-in k w in
+    outward-in (r _ _ a c) (r _ _ a d) (r _ _ b c) (r _ _ b d)
+
+-- K contains the quotient of every point of I by every point of J, which lies above 0
+pub binary-quotient : (x y : Option Bracket) {I J K : Bracket} → Meets x x → Meets y y → Inside x (some I) → Inside y (some J) → Positive (J .lo)
+    → ((p q : Frac) → p ∈ I → q ∈ J → (z : Positive q) → quotient p q z ∈ K) → Inside (x >> (λ A. y >> quotientB A)) (some K)
+unfolding _>>_ quotientB quotientIf quotients
+binary-quotient none y v w h k z r = h
+binary-quotient (some A) none v w h k z r = k
+binary-quotient (some A) (some B) {I} {J} {K} v w h k z r = go (decPositive (B .lo)) (decPositive (B .hi))
+  where
+    go : (d : Dec (Positive (B .lo))) (e : Dec (Positive (B .hi))) → Inside (quotientIf A B d e) (some K)
+    go (yes d) (yes e) =
+        let a = lo-in h v in
+        let b = hi-in h v in
+        let s = lo-in k w in
+        let t = hi-in k w in
+        outward-in (r _ _ a s d) (r _ _ a t e) (r _ _ b s d) (r _ _ b t e)
+    go (yes d) (no e) = absurd (e (positive-mono d w))
+    go (no d) e = absurd (d (positive-mono z (k .above)))
+
+pub const-inside : (c : Frac) (n : ℕ) (K : Bracket) → c ∈ K → Inside (bracketAt (const c) n) (some K)
+unfolding bracketAt
+const-inside c n K h = record { above = h .above; below = h .below }
+
+module _ (x y : Formula) (n : ℕ) (I J K : Bracket) (h : Inside (bracketAt x n) (some I)) (k : Inside (bracketAt y n) (some J)) where
+  pub add-inside : K .lo ⊑ I .lo ⊞ J .lo → I .hi ⊞ J .hi ⊑ K .hi → Inside (bracketAt (add x y) n) (some K)
+  unfolding bracketAt
+  add-inside a b =
+      binary (bracketAt x n) (bracketAt y n) (meeting x n n) (meeting y n n) h k
+      λ p q i j. record { above = ⊑-trans a (⊞-mono (i .above) (j .above)); below = ⊑-trans (⊞-mono (i .below) (j .below)) b }
+
+  pub sub-inside : K .lo ⊑ I .lo ⊟ J .hi → I .hi ⊟ J .lo ⊑ K .hi → Inside (bracketAt (sub x y) n) (some K)
+  unfolding bracketAt
+  sub-inside a b =
+      binary (bracketAt x n) (bracketAt y n) (meeting x n n) (meeting y n n) h k
+      λ p q i j. record { above = ⊑-trans a (⊟-mono (i .above) (j .below)); below = ⊑-trans (⊟-mono (i .below) (j .above)) b }
+
+  pub least-inside : K .lo ⊑ smaller (I .lo) (J .lo) → smaller (I .hi) (J .hi) ⊑ K .hi → Inside (bracketAt (least x y) n) (some K)
+  unfolding bracketAt
+  least-inside a b =
+      binary (bracketAt x n) (bracketAt y n) (meeting x n n) (meeting y n n) h k
+      λ p q i j.
+      record {
+        above = ⊑-trans a (smaller-glb (⊑-trans (smaller-left _ _) (i .above)) (⊑-trans (smaller-right _ _) (j .above)));
+        below = ⊑-trans (smaller-glb (⊑-trans (smaller-left p q) (i .below)) (⊑-trans (smaller-right p q) (j .below))) b;
+      }
+
+-- 0 ≤ a ≤ p and 0 ≤ b ≤ q give a b ≤ p q
+product-mono : {a p b q : Frac} → zeroF ⊑ b → zeroF ⊑ p → a ⊑ p → b ⊑ q → a ⊠ b ⊑ p ⊠ q
+product-mono {a} {p} {b} {q} z w h k =
+    ⊑-trans (⊠-mono b z h) (⊑-trans (⊠-comm p b) (⊑-trans (⊠-mono p w k) (⊠-comm q p)))
+
+-- both factors from 0 up
+pub mul-inside : (x y : Formula) (n : ℕ) (I J K : Bracket) → Inside (bracketAt x n) (some I) → Inside (bracketAt y n) (some J)
+    → zeroF ⊑ I .lo → zeroF ⊑ J .lo → K .lo ⊑ I .lo ⊠ J .lo → I .hi ⊠ J .hi ⊑ K .hi → Inside (bracketAt (mul x y) n) (some K)
+unfolding bracketAt
+mul-inside x y n I J K h k z w a b =
+    binary (bracketAt x n) (bracketAt y n) (meeting x n n) (meeting y n n) h k
+    λ p q i j.
+    record {
+      above = ⊑-trans a (product-mono w (⊑-trans z (i .above)) (i .above) (j .above));
+      below = ⊑-trans (product-mono (⊑-trans w (j .above)) (⊑-trans z (⊑-trans (i .above) (i .below))) (i .below) (j .below)) b;
+    }
+
+-- Quotients, ln and e^. The ends are asked for at every proof that the argument is positive, so that no two proofs are compared
+
+pub ln-inside : (x : Formula) (n : ℕ) (I K : Bracket) → Inside (bracketAt x n) (some I) → Positive (I .lo) → Positive (I .hi)
+    → ((p : Positive (I .lo)) → K .lo ⊑ lnLowerAt (I .lo) p n) → ((q : Positive (I .hi)) → lnUpperAt (I .hi) q n ⊑ K .hi)
+    → Inside (bracketAt (ln x) n) (some K)
+unfolding bracketAt _>>_ lnB lnIf
+ln-inside x n I K h p q a b =
+    go (bracketAt x n >> lnB n) (decPositive (I .lo)) (decPositive (I .hi))
+    (then-inside (lnB n) (ln-isotone n) (bracketAt x n) (some I) (meeting x n n) h)
+  where
+    go : (r : Option Bracket) (d : Dec (Positive (I .lo))) (e : Dec (Positive (I .hi))) → Inside r (lnIf n I d e) → Inside r (some K)
+    go r (yes i) (yes j) g = inside-wider r (record { above = a i; below = b j }) g
+    go r (yes i) (no j) g = absurd (j q)
+    go r (no i) e g = absurd (i p)
+
+-- a dividend from 0 up; R contains one over J
+pub div-inside : (x y : Formula) (n : ℕ) (I J R K : Bracket) → Inside (bracketAt x n) (some I) → Inside (bracketAt y n) (some J)
+    → Positive (J .lo) → Positive (J .hi) → ((q : Positive (J .hi)) → R .lo ⊑ inverse (J .hi) q) → ((p : Positive (J .lo)) → inverse (J .lo) p ⊑ R .hi)
+    → zeroF ⊑ I .lo → zeroF ⊑ R .lo → K .lo ⊑ I .lo ⊠ R .lo → I .hi ⊠ R .hi ⊑ K .hi → Inside (bracketAt (div x y) n) (some K)
+unfolding bracketAt
+div-inside x y n I J R K h k p q c d z w a b =
+    binary-quotient (bracketAt x n) (bracketAt y n) (meeting x n n) (meeting y n n) h k p
+    λ u v i j o.
+    let r = ⊑-trans (c q) (inverse-anti o q (j .below)) in
+    let s = ⊑-trans (inverse-anti p o (j .above)) (d p) in
+    record {
+      above = ⊑-trans a (product-mono w (⊑-trans z (i .above)) (i .above) r);
+      below = ⊑-trans (product-mono (⊑-trans w r) (⊑-trans z (⊑-trans (i .above) (i .below))) (i .below) s) b;
+    }
+
+-- N = k + 1, and the ends of e^ are there at the ends of I
+pub exp-inside : (x : Formula) (k : ℕ) (I K : Bracket) (l u : Frac) → Inside (bracketAt x (suc k)) (some I)
+    → expLowerAt (I .lo) (suc k) ≡ some l → expUpperAt (I .hi) (suc k) ≡ some u → K .lo ⊑ l → u ⊑ K .hi
+    → Inside (bracketAt (exp x) (suc k)) (some K)
+unfolding bracketAt _>>_ expB ends
+exp-inside x k I K l u h p q a b =
+    go (bracketAt x (suc k) >> expB (suc k)) (expLowerAt (I .lo) (suc k)) (expUpperAt (I .hi) (suc k)) p q
+    (then-inside (expB (suc k)) (exp-isotone k) (bracketAt x (suc k)) (some I) (meeting x (suc k) (suc k)) h)
+  where
+    go : (r : Option Bracket) (c d : Option Frac) → c ≡ some l → d ≡ some u → Inside r (ends c d) → Inside r (some K)
+    go r c d p q g = inside-wider r {I = record { lo = l; hi = u }} (record { above = a; below = b }) (subst₂ (λ c d. Inside r (ends c d)) p q g)

@@ -1,0 +1,1 @@
+// What "exact" means is all in specs/: definitions and laws, no code.
