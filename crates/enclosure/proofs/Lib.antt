@@ -1,0 +1,11 @@
+pub mod Signed
+pub mod OddSeries
+pub mod Octave
+pub mod LnPoint
+pub mod LnInterval
+pub mod Tests
+pub mod Entries
+pub mod Quadratic
+pub mod ExpProducts
+pub mod ExpSigns
+pub mod ExpInterval

@@ -1,0 +1,5 @@
+pub mod Promises
+pub mod LogSteps
+pub mod ExpSteps
+pub mod Enclosing
+pub mod Bounds

@@ -1,0 +1,11 @@
+pub mod Signed
+pub mod Logs
+pub mod Promises
+pub mod Steps
+pub mod Millis
+pub mod Parts
+pub mod Ends
+pub mod Multiples
+pub mod Enclosing
+pub mod Thousandths
+pub mod Examples

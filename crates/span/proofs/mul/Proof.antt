@@ -1,0 +1,31 @@
+-- `span::mul` meets its contract. Assumes nothing.
+use native.Mathlib.Omega.{arith}
+use borrow.Author.Needs.{needs}
+use Rattle.span.proofs.Operations.{product-fits, product-roundable, product-rounded}
+use Rattle.span.proofs.mul.Statement.{statement}
+use Rattle.span.proofs.mul.Tie as tie
+
+mul-l : tie.Need-mul-l
+mul-l c = omega (arith, product-fits _ _ (c .before .before .pre))
+
+mul-h : tie.Need-mul-h
+mul-h c = omega (arith, product-fits _ _ (c .before .before .before .before .pre))
+
+add-e : tie.Need-add-e
+add-e c = search needs
+
+sub-e : tie.Need-sub-e
+sub-e c = search needs
+
+norm-requires : tie.Need-norm-requires
+norm-requires c κs =
+    let f = c .before .before .before .before .before .before .pre in
+    product-roundable _ _ _ _ _ f (record { low = omega arith; high = omega arith; exponent = omega arith })
+
+returns : tie.Need-returns
+returns c =
+    let f = c .before .before .before .before .before .before .before .pre in
+    product-rounded _ _ _ _ _ _ f (record { low = omega arith; high = omega arith; exponent = omega arith }) (c .norm .ensures)
+
+pub mul-spec : {M : Type 1} → statement M
+mul-spec = tie.close (tie.spec mul-l mul-h add-e sub-e norm-requires returns)

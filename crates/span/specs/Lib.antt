@@ -1,0 +1,9 @@
+pub mod Spans
+pub mod Rounding
+pub mod Powers
+pub mod Constants
+pub mod Enclosing
+pub mod Wholes
+pub mod Bounds
+pub mod Windows
+pub mod Unary
