@@ -1,0 +1,7 @@
+pub mod Refusals
+pub mod Bytes
+pub mod Digits
+pub mod Verdicts
+pub mod Spelling
+pub mod KnownCases
+pub mod laws

@@ -1,0 +1,6 @@
+-- Laws of the definitions.
+pub mod Limits
+pub mod Spelling
+pub mod Tests
+pub mod Verdicts
+pub mod Known

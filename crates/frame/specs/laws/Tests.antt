@@ -1,0 +1,72 @@
+-- Laws of the tests: what is known of a case that passes them. Assumes nothing.
+use Prim.Native.Nat.{ℕ, zero, suc, _*_, _<_}
+use mathlib.Core.Path.{_≡_, refl, ap, sym, _∙_}
+use mathlib.Core.Bool.{Bool, true, false, not, _&&_, _||_}
+use native.Mathlib.Omega.{arith}
+use lib.Dec.{eqb, ltb}
+use borrow.Author.Tests.{eq-eqb, ne-eqb, eqb-false}
+use Rattle.guidance.specs.declared.Case.{Case}
+use Rattle.guidance.specs.Substances.{betaOf, heatOf}
+use Rattle.guidance.specs.Cases.{Fields}
+use Rattle.guidance.specs.Words.{Heated}
+use Rattle.frame.specs.declared.Verdict.{Verdict}
+use Rattle.frame.specs.laws.Limits.{neither, inside}
+use Rattle.frame.specs.Verdicts.{outside, settingOutside, quantityOutside, heatMissing, tests, firstOf}
+
+-- what tests 3 to 8 make of a case
+abbrev pub caseVerdict : Case → (room : ℕ) → Verdict
+caseVerdict c room = firstOf (tests false false c room) c
+
+-- no heat is a heat of 0
+no-product : (n : ℕ) → eqb n 0 ≡ eqb (440 * n) 0
+no-product zero = refl
+no-product (suc n) = ne-eqb (suc n) 0 (λ e. omega arith) ∙ sym (ne-eqb (440 * suc n) 0 (λ e. omega arith))
+
+no-heat : (substance given : ℕ) → (eqb given 0 && eqb (betaOf substance) 0) ≡ eqb (heatOf substance given) 0
+unfolding heatOf
+no-heat substance zero = no-product (betaOf substance)
+no-heat substance (suc given) = simp (ne-eqb (suc given) 0 (λ e. omega arith))
+
+pub heat-missing : (c : Case) → heatMissing c ≡ eqb (heatOf (c .substance) (c .heat)) 0
+unfolding heatMissing
+heat-missing c = no-heat (c .substance) (c .heat)
+
+module _ (c : Case) (substance : outside 0 75 (c .substance) ≡ false) (setting : settingOutside c ≡ false) (quantity : quantityOutside c ≡ false) where
+  pub fields : Fields c
+  unfolding settingOutside quantityOutside
+  fields =
+      let state = outside 0 1 (c .state) in
+      let placement = outside 0 1 (c .placement) in
+      let mass = outside 1 1000000000 (c .mass) in
+      let mean = outside 1 50000 (c .mean) in
+      let stoichiometric = outside 1 50000 (c .stoichiometric) in
+      let heat = outside 0 150000 (c .heat) in
+      let distance = outside 1 1000000 (c .distance) in
+      let s2 = neither (state || placement) (outside 1 4 (c .surroundings)) setting in
+      let s1 = neither state placement (s2 .0) in
+      let q5 = neither (mass || mean || stoichiometric || heat || distance) (outside 1 500 (c .body)) quantity in
+      let q4 = neither (mass || mean || stoichiometric || heat) distance (q5 .0) in
+      let q3 = neither (mass || mean || stoichiometric) heat (q4 .0) in
+      let q2 = neither (mass || mean) stoichiometric (q3 .0) in
+      let q1 = neither mass mean (q2 .0) in
+      record {
+        substance = inside 0 75 (c .substance) substance .1;
+        state = inside 0 1 (c .state) (s1 .0) .1;
+        placement = inside 0 1 (c .placement) (s1 .1) .1;
+        surroundings = inside 1 4 (c .surroundings) (s2 .1) .0;
+        surroundings-most = inside 1 4 (c .surroundings) (s2 .1) .1;
+        mass = inside 1 1000000000 (c .mass) (q1 .0) .0;
+        mass-most = inside 1 1000000000 (c .mass) (q1 .0) .1;
+        mean = inside 1 50000 (c .mean) (q1 .1) .0;
+        mean-most = inside 1 50000 (c .mean) (q1 .1) .1;
+        stoichiometric = inside 1 50000 (c .stoichiometric) (q2 .1) .0;
+        stoichiometric-most = inside 1 50000 (c .stoichiometric) (q2 .1) .1;
+        heat-most = inside 0 150000 (c .heat) (q3 .1) .1;
+        distance = inside 1 1000000 (c .distance) (q4 .1) .0;
+        distance-most = inside 1 1000000 (c .distance) (q4 .1) .1;
+        body = inside 1 500 (c .body) (q5 .1) .0;
+        body-most = inside 1 500 (c .body) (q5 .1) .1;
+      }
+
+  pub heated : heatMissing c ≡ false → Heated c
+  heated h = record { fields = fields; heat = let n = eqb-false (heatOf (c .substance) (c .heat)) 0 (sym (heat-missing c) ∙ h) in omega arith }

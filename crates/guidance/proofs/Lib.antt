@@ -1,0 +1,4 @@
+-- Laws that several proofs cite.
+pub mod Products
+pub mod Ranks
+pub mod Signs

@@ -1,0 +1,27 @@
+-- `guidance::readings::reading` meets its contract: the array is the definition's table. Assumes nothing.
+use mathlib.Core.Path.{refl}
+use native.Mathlib.Omega.{arith}
+use borrow.Author.Needs.{needs}
+use Rattle.guidance.specs.Damage.{table}
+use Rattle.guidance.specs.laws.Readings.{table-count, tenths-low, tenths-high}
+use Rattle.guidance.proofs.readings.reading.Statement.{statement}
+use Rattle.guidance.proofs.readings.reading.Tie as tie
+
+rank-requires : tie.Need-rank-requires
+unfolding table
+rank-requires c κs = refl
+
+mul-result : tie.Need-mul-result
+mul-result c = search needs
+
+add-result : tie.Need-add-result
+add-result c = omega (arith, table-count (c .before .before .before .args .p))
+
+returns : tie.Need-returns
+returns c = tenths-low (c .before .rank .ensures) (c .if1 .taken)
+
+returns-2 : tie.Need-returns-2
+returns-2 c = tenths-high (c .before .rank .ensures) (c .if1 .left)
+
+pub reading-spec : {M : Type 1} → statement M
+reading-spec = tie.close (tie.spec rank-requires mul-result add-result returns returns-2)

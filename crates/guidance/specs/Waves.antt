@@ -1,0 +1,155 @@
+-- Pressure and impulse of the wave as formulas (document 01, "Wave formulas"). `air` is P0 in Pa; a case frame of 22 bytes fixes it.
+use Prim.Native.Nat.{ℕ, _-_}
+use mathlib.Core.Bool.{Bool}
+use native.Mathlib.Omega.{arith}
+use lib.Dec.{eqb}
+use Rattle.exact.specs.Fraction.{Ratio, whole, ofRatio, neg}
+use Rattle.exact.specs.Formula.{Formula, powerOf, const, add, sub, mul, div, least, ln, exp}
+use Rattle.guidance.specs.declared.Case.{Case}
+use Rattle.guidance.specs.Choice.{pick}
+use Rattle.guidance.specs.Clouds.{over, rangeOf, heterogeneous, deflagrates, energy}
+use Rattle.guidance.specs.Distances.{metres, nearer, cube02, cube025, cube034}
+
+-- numbers as formulas: whole, and n units of the last decimal place
+abbrev pub number : Ratio → Formula
+number q = const (ofRatio q)
+
+abbrev pub minus : Ratio → Formula
+minus q = const (neg (ofRatio q))
+
+abbrev pub tenths : ℕ → Ratio
+tenths n = over n 10 (omega arith)
+
+abbrev pub hundredths : ℕ → Ratio
+hundredths n = over n 100 (omega arith)
+
+abbrev pub thousandths : ℕ → Ratio
+thousandths n = over n 1000 (omega arith)
+
+abbrev pub tenThousandths : ℕ → Ratio
+tenThousandths n = over n 10000 (omega arith)
+
+-- x^a for a fraction a that is not whole: e^(a ln x)
+abbrev pub raised : Ratio → Formula → Formula
+raised a x = powerOf (ofRatio a) x
+
+abbrev pub half : Ratio
+half = over 1 2 (omega arith)
+
+abbrev pub third : Ratio
+third = over 1 3 (omega arith)
+
+abbrev pub twoThirds : Ratio
+twoThirds = over 2 3 (omega arith)
+
+abbrev pub sixth : Ratio
+sixth = over 1 6 (omega arith)
+
+-- whole powers are products
+abbrev pub square : Formula → Formula
+square x = mul x x
+
+abbrev pub cube : Formula → Formula
+cube x = mul (mul x x) x
+
+-- P0 and C0
+abbrev pub standardAir : ℕ
+standardAir = 101300
+
+abbrev pub sound : Formula
+sound = number (whole 340)
+
+-- Rx = r/(E/P0)^(1/3)
+unfoldable pub reducedDistance : (air : ℕ) → Case → Formula
+reducedDistance air c = div (number (metres c)) (raised third (div (number (energy c)) (number (whole air))))
+
+-- Detonation of a gas (003): ln Px = -1.124 - 1.66 ln R + 0.26 (ln R)², ln Ix = -3.4217 - 0.898 ln R - 0.0096 (ln R)²
+
+unfoldable pub gasPressure : Formula → Formula
+gasPressure x = exp (add (sub (minus (thousandths 1124)) (mul (number (hundredths 166)) (ln x))) (mul (number (hundredths 26)) (square (ln x))))
+
+unfoldable pub gasImpulse : Formula → Formula
+gasImpulse x = exp (sub (sub (minus (tenThousandths 34217)) (mul (number (thousandths 898)) (ln x))) (mul (number (tenThousandths 96)) (square (ln x))))
+
+-- Detonation of a heterogeneous cloud: Px = 0.125/R + 0.137/R² + 0.023/R³, Ix = 0.022/R
+
+unfoldable pub aerosolPressure : Formula → Formula
+aerosolPressure x = add (add (div (number (thousandths 125)) x) (div (number (thousandths 137)) (square x))) (div (number (thousandths 23)) (cube x))
+
+unfoldable pub aerosolImpulse : Formula → Formula
+aerosolImpulse x = div (number (thousandths 22)) x
+
+-- the near field: Rx < 0.2 in a gas, Rx < 0.25 in a heterogeneous cloud; there Px = 18, and Ix is taken at 0.142, or is 0.16
+
+unfoldable pub nearField : (air : ℕ) → Case → Bool
+nearField air c = pick (heterogeneous c) (nearer cube025 air c) (nearer cube02 air c)
+
+unfoldable pub detonationPressure : (air : ℕ) → Case → Formula
+detonationPressure air c =
+    pick (nearField air c) (number (whole 18))
+    (pick (heterogeneous c) (aerosolPressure (reducedDistance air c)) (gasPressure (reducedDistance air c)))
+
+unfoldable pub detonationImpulse : (air : ℕ) → Case → Formula
+detonationImpulse air c =
+    pick (heterogeneous c)
+    (pick (nearField air c) (number (hundredths 16)) (aerosolImpulse (reducedDistance air c)))
+    (gasImpulse (pick (nearField air c) (number (thousandths 142)) (reducedDistance air c)))
+
+-- The front speed V: the upper end of ranges 2, 3 and 4; 43 M^(1/6) and 26 M^(1/6) in ranges 5 and 6, M the mass in kg
+
+unfoldable pub frontSpeed : Case → Formula
+frontSpeed c =
+    pick (eqb (rangeOf c) 2) (number (whole 500))
+    (pick (eqb (rangeOf c) 3) (number (whole 300))
+    (pick (eqb (rangeOf c) 4) (number (whole 200))
+    (mul (number (whole (pick (eqb (rangeOf c) 5) 43 26))) (raised sixth (number (over (c .mass) 1000 (omega arith)))))))
+
+-- w = V/C0; g = (σ - 1)/σ, with σ = 7 for gas and 4 for heterogeneous
+
+unfoldable pub machNumber : Case → Formula
+machNumber c = div (frontSpeed c) sound
+
+unfoldable pub expansion : Case → Formula
+expansion c = pick (heterogeneous c) (number (over (4 - 1) 4 (omega arith))) (number (over (7 - 1) 7 (omega arith)))
+
+-- Deflagration, over w, g and R: Px = w²g(0.83/R - 0.14/R²), Ix = wg(1 - 0.4gw)(0.06/R + 0.01/R² - 0.0025/R³)
+
+unfoldable pub fallingPressure : Formula → Formula
+fallingPressure x = sub (div (number (hundredths 83)) x) (div (number (hundredths 14)) (square x))
+
+unfoldable pub fallingImpulse : Formula → Formula
+fallingImpulse x =
+    sub (add (div (number (hundredths 6)) x) (div (number (hundredths 1)) (square x))) (div (number (tenThousandths 25)) (cube x))
+
+unfoldable pub deflagrationPressureAt : (w g x : Formula) → Formula
+deflagrationPressureAt w g x = mul (mul (square w) g) (fallingPressure x)
+
+unfoldable pub deflagrationImpulseAt : (w g x : Formula) → Formula
+deflagrationImpulseAt w g x = mul (mul (mul w g) (sub (number (whole 1)) (mul (mul (number (tenths 4)) g) w))) (fallingImpulse x)
+
+-- 0.34 stands for Rx where Rx < 0.34
+
+unfoldable pub deflagrationDistance : (air : ℕ) → Case → Formula
+deflagrationDistance air c = pick (nearer cube034 air c) (number (hundredths 34)) (reducedDistance air c)
+
+unfoldable pub deflagrationPressure : (air : ℕ) → Case → Formula
+deflagrationPressure air c = deflagrationPressureAt (machNumber c) (expansion c) (deflagrationDistance air c)
+
+unfoldable pub deflagrationImpulse : (air : ℕ) → Case → Formula
+deflagrationImpulse air c = deflagrationImpulseAt (machNumber c) (expansion c) (deflagrationDistance air c)
+
+-- Px and Ix: in ranges 2 to 6 the smaller of this and the detonation figure of the same state at the true Rx (004)
+
+unfoldable pub reducedPressure : (air : ℕ) → Case → Formula
+reducedPressure air c = pick (deflagrates c) (least (deflagrationPressure air c) (detonationPressure air c)) (detonationPressure air c)
+
+unfoldable pub reducedImpulse : (air : ℕ) → Case → Formula
+reducedImpulse air c = pick (deflagrates c) (least (deflagrationImpulse air c) (detonationImpulse air c)) (detonationImpulse air c)
+
+-- ΔP = Px·P0 in Pa; I = Ix·P0^(2/3)·E^(1/3)/C0 in Pa·s
+
+unfoldable pub overpressure : (air : ℕ) → Case → Formula
+overpressure air c = mul (reducedPressure air c) (number (whole air))
+
+unfoldable pub impulse : (air : ℕ) → Case → Formula
+impulse air c = div (mul (mul (reducedImpulse air c) (raised twoThirds (number (whole air)))) (raised third (number (energy c)))) sound

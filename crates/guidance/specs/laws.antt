@@ -1,0 +1,9 @@
+-- The laws: nothing here need be believed.
+pub mod Tables
+pub mod Limits
+pub mod Energies
+pub mod Order
+pub mod Comparisons
+pub mod Readings
+pub mod Domain
+pub mod Known

@@ -1,0 +1,143 @@
+-- Bounds of what is read from the tables and of the energy as words. Assumes nothing.
+use Prim.Native.Nat.{ℕ, zero, suc, _+_, _*_, _-_, _≤_, _<_}
+use mathlib.Core.Path.{_≡_, refl, sym, _∙_, ap}
+use mathlib.Core.Bool.{Bool, true, false, _&&_}
+use native.Mathlib.Nat.{mul-le-mul, mul-pos}
+use native.Mathlib.Decide.{decLe}
+use native.Mathlib.Omega.{arith}
+use lib.Dec.{leb, eqb, ltb, leb→le, lit≤}
+use lib.ListN.{getD, List·getD-eq-default}
+use borrow.Author.Tests.{ne-eqb}
+use Rattle.guidance.specs.declared.Case.{Case}
+use Rattle.guidance.specs.Choice.{pick}
+use Rattle.guidance.specs.Substances.{betas, betaOf, classOf, heatOf}
+use Rattle.guidance.specs.Clouds.{atLeast1, rangeOf}
+use Rattle.guidance.specs.Cases.{Fields}
+use Rattle.guidance.specs.Words.{joulesOf, partsOf}
+use Rattle.guidance.specs.laws.Tables.{at-entry}
+
+-- Choices
+
+pub pick-most : (t : Bool) (a b : ℕ) {n : ℕ} → a ≤ n → b ≤ n → pick t a b ≤ n
+pick-most true a b h k = h
+pick-most false a b h k = k
+
+pub pick-least : (t : Bool) (a b : ℕ) {n : ℕ} → n ≤ a → n ≤ b → n ≤ pick t a b
+pick-least true a b h k = h
+pick-least false a b h k = k
+
+-- Substances
+
+small : ℕ → ℕ → Bool
+small k x = leb x 273
+
+pub beta-most : (s : ℕ) → betaOf s ≤ 273
+unfolding betas betaOf small
+beta-most s = go (decLe (suc s) 76)
+  where
+    go : Dec (s < 76) → getD betas s 0 ≤ 273
+    go (yes h) = leb→le _ 273 (at-entry small betas tt s h)
+    go (no h) = rw (List·getD-eq-default betas 0 {n = s} (omega arith)) (omega arith)
+
+pub heat-most : (s given : ℕ) → given ≤ 150000 → heatOf s given ≤ 150000
+unfolding heatOf
+heat-most s zero h = omega (arith, beta-most s)
+heat-most s (suc given) h = h
+
+pub class-least : (s : ℕ) → 1 ≤ classOf s
+unfolding classOf
+class-least s = pick-least (leb s 10) 1 _ (lit≤ tt) (pick-least (leb s 27) 2 _ (lit≤ tt) (pick-least (leb s 57) 3 4 (lit≤ tt) (lit≤ tt)))
+
+pub class-most : (s : ℕ) → classOf s ≤ 4
+unfolding classOf
+class-most s = pick-most (leb s 10) 1 _ (lit≤ tt) (pick-most (leb s 27) 2 _ (lit≤ tt) (pick-most (leb s 57) 3 4 (lit≤ tt) (lit≤ tt)))
+
+-- the least value 1
+pub range-above : {n m : ℕ} → n ≡ m → 2 < n → n - 2 ≡ atLeast1 (m - 2)
+unfolding atLeast1
+range-above {n} {m} e h = go (m - 2) (omega arith)
+  where
+    go : (i : ℕ) → n - 2 ≡ i → n - 2 ≡ atLeast1 i
+    go zero e = absurd (omega arith)
+    go (suc i) e = e
+
+pub range-below : {n m : ℕ} → n ≡ m → n ≤ 2 → 1 ≡ atLeast1 (m - 2)
+unfolding atLeast1
+range-below {n} {m} e h = go (m - 2) (omega arith)
+  where
+    go : (i : ℕ) → i ≡ 0 → 1 ≡ atLeast1 i
+    go zero e = refl
+    go (suc i) e = absurd (omega arith)
+
+pub heat-given : (s given : ℕ) → 0 < given → given ≡ heatOf s given
+unfolding heatOf
+heat-given s zero h = absurd (omega arith)
+heat-given s (suc given) h = refl
+
+pub heat-table : (s : ℕ) {b : ℕ} (given : ℕ) → given ≤ 0 → b ≡ betaOf s → 440 * b ≡ heatOf s given
+unfolding heatOf
+heat-table s zero h e = ap (λ n. 440 * n) e
+heat-table s (suc given) h e = absurd (omega arith)
+
+-- no heat: none is given, and the substance has no β
+pub heat-none : (s given : ℕ) → eqb (heatOf s given) 0 ≡ (eqb given 0 && eqb (betaOf s) 0)
+unfolding heatOf
+heat-none s zero = go (betaOf s)
+  where
+    go : (b : ℕ) → eqb (440 * b) 0 ≡ eqb b 0
+    go zero = refl
+    go (suc b) = ne-eqb (440 * suc b) 0 (λ e. omega arith) ∙ sym (ne-eqb (suc b) 0 (λ e. omega arith))
+heat-none s (suc given) = rw (ne-eqb (suc given) 0 (λ e. omega arith)) refl
+
+-- Energy
+
+module _ (c : Case) (f : Fields c) where
+  pub range-least : 1 ≤ rangeOf c
+  unfolding rangeOf atLeast1
+  range-least = go (classOf (c .substance) + c .surroundings - 2)
+    where
+      go : (m : ℕ) → 1 ≤ atLeast1 m
+      go zero = omega arith
+      go (suc m) = omega arith
+
+  pub range-most : rangeOf c ≤ 6
+  unfolding rangeOf atLeast1
+  range-most = go (classOf (c .substance) + c .surroundings - 2) (omega (arith, class-most (c .substance), f .surroundings-most))
+    where
+      go : (m : ℕ) → m ≤ 6 → atLeast1 m ≤ 6
+      go zero h = omega arith
+      go (suc m) h = h
+
+  pub released-most : c .mass * heatOf (c .substance) (c .heat) ≤ 150000000000000
+  released-most = omega (arith, mul-le-mul (f .mass-most) (heat-most (c .substance) (c .heat) (f .heat-most)))
+
+  abbrev ground : ℕ
+  ground = pick (eqb (c .placement) 1) 2 1
+
+  abbrev lean : ℕ
+  lean = pick (ltb (c .stoichiometric) (c .mean)) (c .stoichiometric) 1
+
+  ground-most : ground ≤ 2
+  ground-most = pick-most (eqb (c .placement) 1) 2 1 (lit≤ tt) (lit≤ tt)
+
+  lean-most : lean ≤ 50000
+  lean-most = pick-most (ltb (c .stoichiometric) (c .mean)) (c .stoichiometric) 1 (f .stoichiometric-most) (lit≤ tt)
+
+  pub placed-most : c .mass * heatOf (c .substance) (c .heat) * ground ≤ 300000000000000
+  placed-most = omega (arith, mul-le-mul released-most ground-most)
+
+  pub joules-most : joulesOf c ≤ 15000000000000000000
+  unfolding joulesOf
+  joules-most = omega (arith, mul-le-mul placed-most lean-most)
+
+  pub joules-least : 0 < heatOf (c .substance) (c .heat) → 1 ≤ joulesOf c
+  unfolding joulesOf
+  joules-least h = mul-pos (mul-pos (mul-pos (f .mass) h) (pick-least (eqb (c .placement) 1) 2 1 (lit≤ tt) (lit≤ tt))) (pick-least (ltb (c .stoichiometric) (c .mean)) (c .stoichiometric) 1 (f .stoichiometric) (lit≤ tt))
+
+  pub parts-least : 0 < partsOf c
+  unfolding partsOf
+  parts-least = pick-least (ltb (c .stoichiometric) (c .mean)) (c .mean) 1 (f .mean) (lit≤ tt)
+
+  pub parts-most : partsOf c ≤ 50000
+  unfolding partsOf
+  parts-most = pick-most (ltb (c .stoichiometric) (c .mean)) (c .mean) 1 (f .mean-most) (lit≤ tt)

@@ -1,0 +1,54 @@
+-- The test `less` of fractions and the order of fractions. Assumes nothing.
+use Prim.Native.Nat.{ℕ, _*_, _≤_, _<_}
+use mathlib.Core.Path.{_≡_, sym, _∙_}
+use mathlib.Core.Bool.{true, false}
+use native.Mathlib.Decide.{decLe}
+use native.Mathlib.Omega.{arith}
+use lib.Dec.{ltb}
+use borrow.Author.Tests.{lt-ltb, le-ltb, ltb-true, ltb-false}
+use Rattle.exact.specs.Fraction.{Ratio, _≼_}
+use Rattle.exact.specs.laws.Ratio.{_≈_, ≼-trans, to≼, from≼}
+use Rattle.guidance.specs.Distances.{less}
+
+pub ltb-same : {a b m n : ℕ} → (b ≤ a → n ≤ m) → (n ≤ m → b ≤ a) → ltb a b ≡ ltb m n
+ltb-same {a} {b} {m} {n} f g = go (decLe b a)
+  where
+    go : Dec (b ≤ a) → ltb a b ≡ ltb m n
+    go (yes h) = le-ltb a b h ∙ sym (le-ltb m n (f h))
+    go (no h) = lt-ltb a b (omega arith) ∙ sym (lt-ltb m n (above (decLe n m)))
+      where
+        above : Dec (n ≤ m) → m < n
+        above (yes k) = absurd (h (g k))
+        above (no k) = omega arith
+
+-- not x < y: y ≤ x
+pub least-of : (x y : Ratio) → less x y ≡ false → y ≼ x
+unfolding less
+least-of x y h = record { cross = ltb-false _ _ h }
+
+pub not-less : (x y : Ratio) → y ≼ x → less x y ≡ false
+unfolding less
+not-less x y h = le-ltb _ _ (h .cross)
+
+-- x < y: x ≤ y, and not y ≤ x
+pub most-of : (x y : Ratio) → less x y ≡ true → x ≼ y
+unfolding less
+most-of x y h = omega (arith, ltb-true (x .num * y .den) (y .num * x .den) h)
+
+pub less-strict : (x y : Ratio) → less x y ≡ true → y ≼ x → ⊥
+unfolding less
+less-strict x y h k = omega (arith, ltb-true (x .num * y .den) (y .num * x .den) h, k .cross)
+
+pub less-same : (x y u v : Ratio) → (y ≼ x → v ≼ u) → (v ≼ u → y ≼ x) → less x y ≡ less u v
+unfolding less
+less-same x y u v f g = ltb-same (λ h. f (record { cross = h }) .cross) (λ h. g (record { cross = h }) .cross)
+
+-- values alone count
+pub less-value : (x y u v : Ratio) → x ≈ u → y ≈ v → less x y ≡ less u v
+less-value x y u v e f =
+    less-same x y u v (λ h. ≼-trans (from≼ f) (≼-trans h (to≼ e))) (λ h. ≼-trans (to≼ f) (≼-trans h (from≼ e)))
+
+-- a comparison of whole numbers that says the same
+pub less-words : (x y : Ratio) (m n : ℕ) → (y ≼ x → n ≤ m) → (n ≤ m → y ≼ x) → less x y ≡ ltb m n
+unfolding less
+less-words x y m n f g = ltb-same (λ h. f (record { cross = h })) (λ h. g h .cross)

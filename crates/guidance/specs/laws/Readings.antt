@@ -1,0 +1,146 @@
+-- Reading Table 3: its strict rise, tested once and carried to each entry; where a reading stops; and two readings close together.
+-- Assumes nothing.
+use Prim.Native.Nat.{ℕ, zero, suc, _+_, _*_, _-_, _≤_, _<_}
+use mathlib.Core.Path.{_≡_, refl, sym, _∙_, ap}
+use mathlib.Core.Bool.{Bool, true, false, _&&_}
+use mathlib.Core.List.{List, [], _∷_}
+use native.Mathlib.Nat.{le-of-suc-le-suc, not-suc-le-zero}
+use native.Mathlib.Decide.{decLe}
+use native.Mathlib.Omega.{arith}
+use lib.Dec.{T, ltb, leb, ltb→lt}
+use lib.IntN.{ℤ, pos, negsuc}
+use lib.ListN.{getD, length}
+use borrow.Author.Tests.{le-leb, lt-leb}
+use Rattle.guidance.specs.Choice.{pick}
+use Rattle.guidance.specs.Damage.{table, notAbove, tenthsOfPercent, damage, Neighbours}
+use Rattle.guidance.specs.laws.Tables.{both-left, both-right}
+
+-- each entry is above the one before it, the first above b
+abbrev pub rises : ℕ → List ℕ → Bool
+rises b [] = true
+rises b (x ∷ xs) = ltb b x && rises x xs
+
+-- the one test
+pub table-rises : T (rises 0 table)
+unfolding table
+table-rises = tt
+
+module _ (b x : ℕ) (xs : List ℕ) (t : T (rises b (x ∷ xs))) where
+  rises-head : b < x
+  rises-head = ltb→lt b x (both-left (ltb b x) (rises x xs) t)
+
+  rises-tail : T (rises x xs)
+  rises-tail = both-right (ltb b x) (rises x xs) t
+
+-- carried to each entry
+above-start : (b : ℕ) (xs : List ℕ) → T (rises b xs) → (k : ℕ) → k < length xs → b < getD xs k 0
+above-start b [] t k h = absurd (not-suc-le-zero h)
+above-start b (x ∷ xs) t zero h = rises-head b x xs t
+above-start b (x ∷ xs) t (suc k) h = omega (arith, rises-head b x xs t, above-start x xs (rises-tail b x xs t) k (le-of-suc-le-suc h))
+
+entries-rise : (b : ℕ) (xs : List ℕ) → T (rises b xs) → (k m : ℕ) → k < m → m < length xs → getD xs k 0 < getD xs m 0
+entries-rise b [] t k m l h = absurd (not-suc-le-zero h)
+entries-rise b (x ∷ xs) t k zero l h = absurd (not-suc-le-zero l)
+entries-rise b (x ∷ xs) t zero (suc m) l h = above-start x xs (rises-tail b x xs t) m (le-of-suc-le-suc h)
+entries-rise b (x ∷ xs) t (suc k) (suc m) l h = entries-rise x xs (rises-tail b x xs t) k m (le-of-suc-le-suc l) (le-of-suc-le-suc h)
+
+pub table-length : length table ≡ 108
+unfolding table
+table-length = refl
+
+pub table-entries : (k m : ℕ) → k < m → m < 108 → getD table k 0 < getD table m 0
+table-entries k m l h = entries-rise 0 table table-rises k m l (rw table-length h)
+
+-- Where a reading stops
+
+counted : (x : ℕ) (xs : List ℕ) (p : ℕ) → 10 * x ≤ p → notAbove (x ∷ xs) p ≡ suc (notAbove xs p)
+counted x xs p h = rw (le-leb (10 * x) p h) refl
+
+passed : (x : ℕ) (xs : List ℕ) (p : ℕ) → p < 10 * x → notAbove (x ∷ xs) p ≡ notAbove xs p
+passed x xs p h = rw (lt-leb (10 * x) p h) refl
+
+pub count-is : (xs : List ℕ) (p n : ℕ) → n ≤ length xs → ((k : ℕ) → k < n → 10 * getD xs k 0 ≤ p)
+    → ((k : ℕ) → n ≤ k → k < length xs → p < 10 * getD xs k 0) → n ≡ notAbove xs p
+count-is [] p n l below above = omega arith
+count-is (x ∷ xs) p zero l below above =
+    count-is xs p zero (omega arith) (λ k h. absurd (not-suc-le-zero h)) (λ k h i. above (suc k) (omega arith) (omega arith))
+    ∙ sym (passed x xs p (above 0 (omega arith) (omega arith)))
+count-is (x ∷ xs) p (suc n) l below above =
+    ap suc (count-is xs p n (le-of-suc-le-suc l) (λ k h. below (suc k) (omega arith)) (λ k h i. above (suc k) (omega arith) (omega arith)))
+    ∙ sym (counted x xs p (below 0 (omega arith)))
+
+-- Two readings close together
+
+-- entries of a list that rises from b are above p
+none-counted : (b : ℕ) (xs : List ℕ) (p : ℕ) → T (rises b xs) → p < 10 * b + 10 → notAbove xs p ≡ 0
+none-counted b [] p t h = refl
+none-counted b (x ∷ xs) p t h =
+    passed x xs p (omega (arith, rises-head b x xs t)) ∙ none-counted x xs p (rises-tail b x xs t) (omega (arith, rises-head b x xs t))
+
+-- as many entries or one more, for entries are at least 10 thousandths apart
+record OneMore (m n : ℕ) : Type 0 where
+  least : m ≤ n
+  most : n ≤ m + 1
+
+one-more : (b : ℕ) (xs : List ℕ) (p q : ℕ) → T (rises b xs) → p ≤ q → q ≤ p + 2 → OneMore (notAbove xs p) (notAbove xs q)
+one-more b [] p q t l h = record { least = omega arith; most = omega arith }
+one-more b (x ∷ xs) p q t l h = go (one-more x xs p q (rises-tail b x xs t) l h) (decLe (10 * x) p) (decLe (10 * x) q)
+  where
+    later : T (rises x xs)
+    later = rises-tail b x xs t
+
+    go : OneMore (notAbove xs p) (notAbove xs q) → Dec (10 * x ≤ p) → Dec (10 * x ≤ q) → OneMore (notAbove (x ∷ xs) p) (notAbove (x ∷ xs) q)
+    go rest (yes i) (yes j) = rw (le-leb (10 * x) p i, le-leb (10 * x) q j) (record { least = omega arith; most = omega arith })
+    go rest (yes i) (no j) = absurd (omega arith)
+    go rest (no i) (yes j) =
+        rw (lt-leb (10 * x) p (omega arith), le-leb (10 * x) q j, none-counted x xs p later (omega arith), none-counted x xs q later (omega arith))
+        (record { least = omega arith; most = omega arith })
+    go rest (no i) (no j) = rw (lt-leb (10 * x) p (omega arith), lt-leb (10 * x) q (omega arith)) rest
+
+count-most : (xs : List ℕ) (p : ℕ) → notAbove xs p ≤ length xs
+count-most [] p = omega arith
+count-most (x ∷ xs) p = go (count-most xs p) (leb (10 * x) p)
+  where
+    go : notAbove xs p ≤ length xs → (b : Bool) → pick b (suc (notAbove xs p)) (notAbove xs p) ≤ suc (length xs)
+    go h true = omega arith
+    go h false = omega arith
+
+pub table-count : (p : ℕ) → notAbove table p ≤ 108
+table-count p = rw table-length at (count-most table p)
+
+-- a signed number is `up z` - `dn z`
+abbrev pub up : ℤ → ℕ
+up (pos n) = n
+up (negsuc n) = 0
+
+abbrev pub dn : ℤ → ℕ
+dn (pos n) = 0
+dn (negsuc n) = suc n
+
+from-counts : {m n : ℕ} → OneMore m n → n ≤ 108 → Neighbours (tenthsOfPercent m) (tenthsOfPercent n)
+from-counts {m} {n} h l =
+    let e : n ≡ m + (n - m) = omega arith in
+    record { place = m; step = n - m; step-most = omega arith; within = omega arith; lower-is = refl; upper-is = ap tenthsOfPercent e }
+
+nothing-read : {q : ℕ} → q ≤ 1 → notAbove table q ≡ 0
+nothing-read h = none-counted 0 table _ table-rises (omega arith)
+
+-- the damages at two ends at most 2 thousandths apart
+pub neighbours : (l u : ℤ) → up l + dn u ≤ up u + dn l → up u + dn l ≤ up l + dn u + 2 → Neighbours (damage l) (damage u)
+unfolding damage tenthsOfPercent
+neighbours (pos a) (pos b) h k =
+    from-counts (one-more 0 table a b table-rises (omega arith) (omega arith)) (table-count b)
+neighbours (pos a) (negsuc b) h k = absurd (omega arith)
+neighbours (negsuc a) (pos b) h k =
+    rw (nothing-read {q = b} (omega arith)) (from-counts {m = 0} {n = 0} (record { least = omega arith; most = omega arith }) (omega arith))
+neighbours (negsuc a) (negsuc b) h k = from-counts {m = 0} {n = 0} (record { least = omega arith; most = omega arith }) (omega arith)
+
+-- Tenths of a percent by place
+
+pub tenths-low : {n m : ℕ} → n ≡ m → n ≤ 99 → 10 * n ≡ tenthsOfPercent m
+unfolding tenthsOfPercent
+tenths-low {n} {m} e h = rw (le-leb m 99 (omega arith)) (omega arith)
+
+pub tenths-high : {n m : ℕ} → n ≡ m → 99 < n → 891 + n ≡ tenthsOfPercent m
+unfolding tenthsOfPercent
+tenths-high {n} {m} e h = rw (lt-leb m 99 (omega arith)) (omega arith)
