@@ -1,0 +1,7 @@
+pub mod Promises
+pub mod Steps
+pub mod Replacing
+pub mod Distance
+pub mod Windows
+pub mod Exponents
+pub mod Ending

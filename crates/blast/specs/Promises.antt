@@ -1,0 +1,62 @@
+-- What is promised to the crates above: spans that enclose ΔP and I of an accepted case, and whole numbers around them. The ends are open but for
+-- that.
+use Prim.Native.Nat.{ℕ, _≤_, _<_}
+use Rattle.exact.specs.Formula.{Formula}
+use Rattle.exact.specs.Exact.{Holds, AnyTwoMeet}
+use Rattle.span.specs.declared.Span.{Span}
+use Rattle.span.specs.Spans.{Normal, Width, Floor, Ceiling}
+use Rattle.span.specs.Wholes.{wholes, Closed}
+use Rattle.span.specs.Enclosing.{Encloses}
+use Rattle.enclosure.specs.Promises.{enough}
+use Rattle.waves.specs.Ends.{LowerAtMost}
+use Rattle.guidance.specs.declared.Case.{Case}
+use Rattle.guidance.specs.declared.Cloud.{Cloud}
+use Rattle.guidance.specs.Words.{CloudOf}
+use Rattle.guidance.specs.Waves.{overpressure, impulse}
+use Rattle.guidance.specs.Cases.{Air, Accepted}
+use Rattle.blast.specs.declared.Wave.{Wave}
+use Rattle.layout.specs.declared.Ends.{Ends}
+
+-- s contains the N-th bracket of x for every N from `enough` on, is no wider than D in 2^-30, and its exponent lies from l to u
+pub record Enclosure (x : Formula) (D l u : ℕ) (s : Span) : Type 0 where
+  pub normal : Normal s
+  pub encloses : (n : ℕ) → enough ≤ n → Encloses s x n
+  pub width : Width s D
+  pub least : l ≤ s .e
+  pub most : s .e ≤ u
+
+-- an accepted case with its cloud, in air of a pressure that is covered
+pub record Ready (c : Case) (k : Cloud) (air : ℕ) : Type 0 where
+  pub accepted : Accepted air c
+  pub cloud : CloudOf c k
+  pub pressure : Air air
+
+-- ΔP: within 0.8 millionths of itself, from 2^-11 to 14,080,000 Pa
+pub record PressureSpan (air : ℕ) (c : Case) (s : Span) : Type 0 where
+  pub value : Enclosure (overpressure air c) 817 983 1018 s
+  pub lower : LowerAtMost s 14080000 1
+
+-- I: within 1.5 millionths of itself, from 2^-31 to 14,610,071 Pa·s
+pub record ImpulseSpan (air : ℕ) (c : Case) (s : Span) : Type 0 where
+  pub value : Enclosure (impulse air c) 1550 963 1018 s
+  pub lower : LowerAtMost s 14610071 1
+
+pub record WaveOf (air : ℕ) (c : Case) (w : Wave) : Type 0 where
+  pub pressure : PressureSpan air c (w .pressure)
+  pub impulse : ImpulseSpan air c (w .impulse)
+
+-- Whole numbers around the value of x, closed by the rule and by the finer one, below `top`
+pub record Ended (x : Formula) (top : ℕ) (e : Ends) : Type 0 where
+  pub holds : Holds (wholes (e .lower) (e .upper)) x
+  pub meet : AnyTwoMeet x
+  pub closed : Closed 10000 (e .lower) (e .upper)
+  pub finer : Closed 100000 (e .lower) (e .upper)
+  pub small : e .upper < top
+
+pub record Roundable (s : Span) : Type 0 where
+  pub normal : Normal s
+  pub most : s .e ≤ 1024
+
+pub record Rounded (s : Span) (e : Ends) : Type 0 where
+  pub lower : Floor s (e .lower)
+  pub upper : Ceiling s (e .upper)

@@ -1,0 +1,68 @@
+-- A subformula may be replaced by another whose bracket contains its: the bracket of the whole is then contained too, so that a law
+-- over constants serves for a formula that comes to one. Assumes nothing.
+use Prim.Native.Nat.{ℕ, suc}
+use mathlib.Core.Option.{Option, none, some}
+use Rattle.exact.specs.Fraction.{Frac, Positive, _⊑_}
+use Rattle.exact.specs.Bracket.{Bracket}
+use Rattle.exact.specs.Formula.{Formula, const, mul, div, ln, exp, bracketAt, _>>_, quotientB, quotientIf, lnB, expB}
+use Rattle.exact.specs.laws.Decide.{decPositive}
+use Rattle.exact.specs.laws.Frac.{⊑-refl, ⊑-trans}
+use Rattle.exact.specs.laws.Pairs.{⊠-monotone, quotients-hold}
+use Rattle.exact.specs.laws.Meeting.{Meets, meeting}
+use Rattle.exact.specs.laws.Containment.{Inside, pairs-inside, then-inside, ln-isotone, exp-isotone}
+use Rattle.exact.specs.laws.Steps.{binary-quotient}
+
+-- the n-th bracket of x lies in that of y
+pub record Within (x y : Formula) (n : ℕ) : Type 0 where
+  pub inside : Inside (bracketAt x n) (bracketAt y n)
+
+same : (x : Option Bracket) → Inside x x
+same none = tt
+same (some A) = record { above = ⊑-refl _; below = ⊑-refl _ }
+
+pub within-refl : (x : Formula) (n : ℕ) → Within x x n
+within-refl x n = record { inside = same (bracketAt x n) }
+
+pub const-within : {c d : Frac} → d ⊑ c → c ⊑ d → (n : ℕ) → Within (const c) (const d) n
+unfolding bracketAt
+const-within h k n = record { inside = record { above = h; below = k } }
+
+pub mul-within : {x y u v : Formula} {n : ℕ} → Within x u n → Within y v n → Within (mul x y) (mul u v) n
+unfolding bracketAt
+mul-within {x} {y} {u} {v} {n} h k =
+    record { inside = pairs-inside ⊠-monotone (bracketAt x n) (bracketAt y n) (bracketAt u n) (bracketAt v n) (meeting x n n) (meeting y n n) (h .inside) (k .inside) }
+
+quotients-inside : (x y u v : Option Bracket) → Meets x x → Meets y y → Inside x u → Inside y v
+    → Inside (x >> (λ (A : Bracket). y >> quotientB A)) (u >> (λ (A : Bracket). v >> quotientB A))
+unfolding _>>_ quotientB quotientIf
+quotients-inside x y none v i j h k = tt
+quotients-inside x y (some I) none i j h k = tt
+quotients-inside x y (some I) (some J) i j h k = go (decPositive (J .lo)) (decPositive (J .hi))
+  where
+    go : (d : Dec (Positive (J .lo))) (e : Dec (Positive (J .hi))) → Inside (x >> (λ (A : Bracket). y >> quotientB A)) (quotientIf I J d e)
+    go (yes d) (yes e) = binary-quotient x y i j h k d λ p q m n z. quotients-hold m n z d e
+    go (yes d) (no e) = tt
+    go (no d) e = tt
+
+pub div-within : {x y u v : Formula} {n : ℕ} → Within x u n → Within y v n → Within (div x y) (div u v) n
+unfolding bracketAt
+div-within {x} {y} {u} {v} {n} h k =
+    record { inside = quotients-inside (bracketAt x n) (bracketAt y n) (bracketAt u n) (bracketAt v n) (meeting x n n) (meeting y n n) (h .inside) (k .inside) }
+
+pub ln-within : {x y : Formula} {n : ℕ} → Within x y n → Within (ln x) (ln y) n
+unfolding bracketAt
+ln-within {x} {y} {n} h = record { inside = then-inside (lnB n) (ln-isotone n) (bracketAt x n) (bracketAt y n) (meeting x n n) (h .inside) }
+
+pub exp-within : {x y : Formula} {k : ℕ} → Within x y (suc k) → Within (exp x) (exp y) (suc k)
+unfolding bracketAt
+exp-within {x} {y} {k} h =
+    record { inside = then-inside (expB (suc k)) (exp-isotone k) (bracketAt x (suc k)) (bracketAt y (suc k)) (meeting x (suc k) (suc k)) (h .inside) }
+
+chain : (x y : Option Bracket) (I : Bracket) → Inside x y → Inside y (some I) → Inside x (some I)
+chain x none I h k = absurd k
+chain none (some B) I h k = absurd h
+chain (some A) (some B) I h k = record { above = ⊑-trans (k .above) (h .above); below = ⊑-trans (h .below) (k .below) }
+
+-- what holds the bracket of y holds that of x
+pub within-inside : {x y : Formula} {n : ℕ} (I : Bracket) → Within x y n → Inside (bracketAt y n) (some I) → Inside (bracketAt x n) (some I)
+within-inside {x} {y} {n} I h k = chain (bracketAt x n) (bracketAt y n) I (h .inside) k

@@ -1,0 +1,49 @@
+-- A signed word by its sign, as the contract has it and as the code reads it. Assumes nothing.
+use mathlib.Core.Path.{_≡_, refl, sym, ap, _∙_}
+use mathlib.Core.Bool.{Bool, true, false, cond}
+use Prim.Native.Nat.{ℕ, suc, _-_, _^_, _≤_, _<_}
+use native.Mathlib.Omega.{arith}
+use lib.IntN.{ℤ, pos, negsuc, subℕ, _+ℤ_}
+use lib.Signed.{mag, leZ}
+use borrow.Author.Tests.{le-leb, le-ltb}
+use mir.Syntax.{w64}
+use mir.Val.{ofZ, toZ}
+use mir.ValLaws.{toZ-ofZ}
+
+-- the number that the code reads
+abbrev pub R : ℤ → ℤ
+R z = toZ w64 (ofZ w64 z)
+
+pub back : (z : ℤ) → mag z < 2 ^ 63 → R z ≡ z
+back z h = toZ-ofZ w64 z (record { sfits = h })
+
+-- what a signed step computed, read back from its bits
+pub step : {e v : ℤ} → e ≡ v → mag v < 2 ^ 63 → R e ≡ v
+step {v = v} p h = ap R p ∙ back v h
+
+never : false ≡ true → ⊥
+never h = let z : _≡_ {A = ℕ} 0 1 = cc in omega arith
+
+is-pos : (z : ℤ) → leZ (pos 0) z ≡ true → (a : ℕ) × (z ≡ pos a)
+is-pos (pos a) h = (a, refl)
+is-pos (negsuc a) h = absurd (never h)
+
+is-neg : (z : ℤ) → leZ (pos 0) z ≡ false → (a : ℕ) × (z ≡ negsuc a)
+is-neg (pos a) h = absurd (never (sym h ∙ le-leb 0 a (omega arith)))
+is-neg (negsuc a) h = (a, refl)
+
+-- x is pos a, or negsuc a, after the test 0 <= x
+pub record Read (s : ℕ → ℤ) (x : ℤ) : Type 0 where
+  pub a : ℕ
+  pub same : x ≡ s a
+  pub read : R x ≡ s a
+
+pub as-pos : (x : ℤ) → mag x < 2 ^ 63 → leZ (pos 0) (R x) ≡ true → Read pos x
+as-pos x h t = let p = is-pos _ t in record { a = p .0; same = sym (back x h) ∙ p .1; read = p .1 }
+
+pub as-neg : (x : ℤ) → mag x < 2 ^ 63 → leZ (pos 0) (R x) ≡ false → Read negsuc x
+as-neg x h t = let p = is-neg _ t in record { a = p .0; same = sym (back x h) ∙ p .1; read = p .1 }
+
+-- a negative number and a power above it
+pub sub-least : (a b : ℕ) → b ≤ a → subℕ a b ≡ pos (a - b)
+sub-least a b h = ap (λ (t : Bool). cond t (negsuc (b - suc a)) (pos (a - b))) (le-ltb a b h)

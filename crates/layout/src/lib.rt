@@ -1,0 +1,171 @@
+// The writers of the answer frame: numbers high byte first, each into a part of the lent area.
+// Every contract gives the whole part at exit: `sets l i bs` is the list l with the bytes bs stored from index i on.
+ghost use mathlib.Core.Path.{_≡_};
+ghost use Prim.Native.Nat.{_%_, _^_, _≤_, _<_};
+ghost use lib.ListN.{length};
+ghost use lib.Seq.{sets};
+ghost use lib.Signed.{mag};
+ghost use Rattle.layout.specs.Bytes.{two, four, twos, words, halves};
+ghost use Rattle.layout.specs.Places.{Fits, Fit, probitOf, waveBytes, probitBytes, damageBytes, rangeByte, answerBytes};
+
+// The last eight bits of v.
+fn low_byte(v: u64) -> u8
+    ensures { λ r. ⌜ r ≡ v % 256 ⌝ }
+{
+    (v & 0xff) as u8
+}
+
+// The first two bytes of s become v's.
+fn put_half(s: &mut [u8], v: u64)
+    requires { ⌜ 2 ≤ length (now s) ⌝ }
+    ensures { λ _. ⌜ now (s .exit) ≡ sets (now (s .entry)) 0 (two v) ⌝ }
+{
+    s[0] = low_byte(v >> 8);
+    s[1] = low_byte(v);
+}
+
+// The first four bytes of s become v's.
+fn put_word(s: &mut [u8], v: u64)
+    requires { ⌜ 4 ≤ length (now s) ⌝ }
+    ensures { λ _. ⌜ now (s .exit) ≡ sets (now (s .entry)) 0 (four v) ⌝ }
+{
+    s[0] = low_byte(v >> 24);
+    s[1] = low_byte(v >> 16);
+    s[2] = low_byte(v >> 8);
+    s[3] = low_byte(v);
+}
+
+// The 32 bits of x in two's complement.
+fn bits(x: i64) -> u64
+    requires { ⌜ mag x < 2 ^ 31 ⌝ }
+    ensures { λ r. ⌜ r ≡ twos x ⌝ }
+{
+    if x >= 0 {
+        x as u64
+    } else {
+        let y = x + 0x1_0000_0000;
+        y as u64
+    }
+}
+
+// The two ends of a damage, two bytes each.
+fn put_damage(s: &mut [u8], lower: u64, upper: u64)
+    requires { ⌜ 4 ≤ length (now s) ⌝ }
+    ensures { λ _. ⌜ now (s .exit) ≡ sets (now (s .entry)) 0 (halves lower upper) ⌝ }
+{
+    put_half(s, lower);
+    put_half(&mut s[2..], upper);
+}
+
+// The two ends of a pressure or an impulse, four bytes each.
+fn put_ends(s: &mut [u8], lower: u64, upper: u64)
+    requires { ⌜ 8 ≤ length (now s) ⌝ }
+    ensures { λ _. ⌜ now (s .exit) ≡ sets (now (s .entry)) 0 (words lower upper) ⌝ }
+{
+    put_word(s, lower);
+    put_word(&mut s[4..], upper);
+}
+
+// The two ends of an interval: pressure in Pa, impulse in Pa·s, or damage in tenths of a percent.
+pub struct Ends {
+    pub lower: u64,
+    pub upper: u64,
+}
+
+// The two ends of a probit, thousandths.
+pub struct Probit {
+    pub lower: i64,
+    pub upper: i64,
+}
+
+// Pr1 to Pr5.
+pub struct Probits {
+    pub first: Probit,
+    pub second: Probit,
+    pub third: Probit,
+    pub fourth: Probit,
+    pub fifth: Probit,
+}
+
+// The damages that Pr1 to Pr5 read.
+pub struct Damages {
+    pub first: Ends,
+    pub second: Ends,
+    pub third: Ends,
+    pub fourth: Ends,
+    pub fifth: Ends,
+}
+
+// The two ends of a probit in two's complement, four bytes each.
+fn put_probit(s: &mut [u8], p: Probit)
+    requires { ⌜ 8 ≤ length (now s) ⌝ }
+    requires { ⌜ Fits p ⌝ }
+    ensures { λ _. ⌜ now (s .exit) ≡ sets (now (s .entry)) 0 (probitOf p) ⌝ }
+{
+    let l = bits(p.lower);
+    let u = bits(p.upper);
+    put_ends(s, l, u);
+}
+
+// Pressure and impulse, into their own part of the area.
+fn put_wave(s: &mut [u8], pressure: Ends, impulse: Ends)
+    requires { ⌜ 16 ≤ length (now s) ⌝ }
+    ensures { λ _. ⌜ now (s .exit) ≡ sets (now (s .entry)) 0 (waveBytes pressure impulse) ⌝ }
+{
+    put_ends(s, pressure.lower, pressure.upper);
+    put_ends(&mut s[8..], impulse.lower, impulse.upper);
+}
+
+// The five probits, into their own part of the area.
+fn put_probits(s: &mut [u8], p: Probits)
+    requires { ⌜ 40 ≤ length (now s) ⌝ }
+    requires { ⌜ Fit p ⌝ }
+    ensures { λ _. ⌜ now (s .exit) ≡ sets (now (s .entry)) 0 (probitBytes p) ⌝ }
+{
+    put_probit(s, p.first);
+    put_probit(&mut s[8..], p.second);
+    put_probit(&mut s[16..], p.third);
+    put_probit(&mut s[24..], p.fourth);
+    put_probit(&mut s[32..], p.fifth);
+}
+
+// The five damages, into their own part of the area.
+fn put_damages(s: &mut [u8], d: Damages)
+    requires { ⌜ 20 ≤ length (now s) ⌝ }
+    ensures { λ _. ⌜ now (s .exit) ≡ sets (now (s .entry)) 0 (damageBytes d) ⌝ }
+{
+    put_damage(s, d.first.lower, d.first.upper);
+    put_damage(&mut s[4..], d.second.lower, d.second.upper);
+    put_damage(&mut s[8..], d.third.lower, d.third.upper);
+    put_damage(&mut s[12..], d.fourth.lower, d.fourth.upper);
+    put_damage(&mut s[16..], d.fifth.lower, d.fifth.upper);
+}
+
+// The range, one byte.
+fn put_range(s: &mut [u8], range: u64)
+    requires { ⌜ 1 ≤ length (now s) ⌝ }
+    requires { ⌜ range < 256 ⌝ }
+    ensures { λ _. ⌜ now (s .exit) ≡ sets (now (s .entry)) 0 (rangeByte range) ⌝ }
+{
+    s[0] = range as u8;
+}
+
+// A whole answer into the area's first 77 bytes: the range, then each writer in its own part.
+pub fn put_answer(
+    s: &mut [u8],
+    range: u64,
+    pressure: Ends,
+    impulse: Ends,
+    probits: Probits,
+    damages: Damages,
+)
+    requires { ⌜ 77 ≤ length (now s) ⌝ }
+    requires { ⌜ range < 256 ⌝ }
+    requires { ⌜ Fit probits ⌝ }
+    ensures { λ _. ⌜ now (s .exit) ≡ sets (now (s .entry)) 0 (answerBytes range pressure impulse probits damages) ⌝ }
+{
+    put_range(s, range);
+    put_wave(&mut s[1..], pressure, impulse);
+    put_probits(&mut s[17..], probits);
+    put_damages(&mut s[57..], damages);
+}

@@ -1,0 +1,6 @@
+pub mod Ends
+pub mod Coefficients
+pub mod Detonation
+pub mod Gas
+pub mod Deflagration
+pub mod Fronts
