@@ -1,0 +1,52 @@
+-- The numbers of an answer, from what the wave and the probits promise. Assumes nothing.
+use mathlib.Core.Path.{_≡_}
+use Prim.Native.Nat.{ℕ, _^_, _≤_, _<_}
+use native.Mathlib.Nat.{le-refl}
+use native.Mathlib.Omega.{arith}
+use Rattle.exact.specs.Formula.{Formula}
+use Rattle.exact.specs.laws.Meeting.{any-two-meet}
+use Rattle.span.specs.declared.Span.{Span}
+use Rattle.span.specs.Enclosing.{Encloses}
+use Rattle.enclosure.specs.Promises.{enough}
+use Rattle.guidance.specs.declared.Case.{Case}
+use Rattle.guidance.specs.declared.Cloud.{Cloud}
+use Rattle.guidance.specs.Cases.{Accepted}
+use Rattle.guidance.specs.Words.{CloudOf}
+use Rattle.guidance.specs.Waves.{standardAir, overpressure, impulse}
+use Rattle.guidance.specs.Probits.{probit1, probit2, probit3, probit4, probit5}
+use Rattle.guidance.specs.laws.Limits.{range-most}
+use Rattle.layout.specs.declared.Ends.{Ends}
+use Rattle.layout.specs.declared.Probits.{Probits}
+use Rattle.blast.specs.declared.Wave.{Wave}
+use Rattle.blast.specs.Promises.{WaveOf, Rounded, Ended}
+use Rattle.blast.specs.Ending.{pressure-ended, impulse-ended}
+use Rattle.probits.specs.Promises.{AllProbits}
+use Rattle.answer.specs.Answer.{WaveEnds}
+use Rattle.answer.specs.Steps.{FiguresOf}
+
+ends : {x : Formula} {e : Ends} → Ended x (2 ^ 24) e → WaveEnds x e
+ends h = record { holds = h .holds; meet = h .meet; closed = h .closed; fits = omega (arith, h .small) }
+
+module _ {c : Case} {k : Cloud} {w : Wave} (a : Accepted standardAir c) (q : CloudOf c k) (v : WaveOf standardAir c w) where
+  pressure-encloses : Encloses (w .pressure) (overpressure standardAir c) enough
+  pressure-encloses = v .pressure .value .encloses enough (le-refl enough)
+
+  impulse-encloses : Encloses (w .impulse) (impulse standardAir c) enough
+  impulse-encloses = v .impulse .value .encloses enough (le-refl enough)
+
+  pub figures : {p i : Ends} {r : Probits} → Rounded (w .pressure) p → Rounded (w .impulse) i
+      → AllProbits (w .pressure) (w .impulse) standardAir (c .body) r
+      → FiguresOf c (record { range = k .range; pressure = p; impulse = i; probits = r })
+  unfolding probit1 probit2 probit3 probit4 probit5
+  figures f g h =
+      record {
+        range = q .range;
+        small = omega (arith, q .range, range-most c (a .fields));
+        pressure-ends = ends (pressure-ended (v .pressure) f);
+        impulse-ends = ends (impulse-ended (v .impulse) g);
+        first = record { holds = h .first .holds _ _ enough (le-refl enough) pressure-encloses impulse-encloses; meet = any-two-meet _; closed = h .first .closed };
+        second = record { holds = h .second .holds _ _ enough (le-refl enough) pressure-encloses impulse-encloses; meet = any-two-meet _; closed = h .second .closed };
+        third = record { holds = h .third .holds _ _ enough (le-refl enough) pressure-encloses impulse-encloses; meet = any-two-meet _; closed = h .third .closed };
+        fourth = record { holds = h .fourth .holds _ enough (le-refl enough) pressure-encloses; meet = any-two-meet _; closed = h .fourth .closed };
+        fifth = record { holds = h .fifth .holds _ _ enough (le-refl enough) pressure-encloses impulse-encloses; meet = any-two-meet _; closed = h .fifth .closed };
+      }

@@ -1,0 +1,28 @@
+-- `answer::reading_of` meets its contract. Assumes nothing.
+use mathlib.Core.Path.{_≡_, ap, ap₂, _∙_}
+use Prim.Native.Nat.{ℕ}
+use Rattle.guidance.specs.Damage.{damage}
+use Rattle.fixed.proofs.Words.{back}
+use Rattle.layout.specs.declared.Ends.{Ends}
+use Rattle.answer.specs.Answer.{reading}
+use borrow.Author.Needs.{needs}
+use Rattle.answer.proofs.reading_of.Statement.{statement}
+use Rattle.answer.proofs.reading_of.Tie as tie
+
+damage-at-requires : tie.Need-damage-at-requires
+damage-at-requires c κs = search needs
+
+damage-at-requires-2 : tie.Need-damage-at-requires-2
+damage-at-requires-2 c κs = search needs
+
+returns : tie.Need-returns
+unfolding reading
+returns c =
+    let p = c .before .before .before .before .args .p in
+    let told = c .before .before .before .struct-told .given in
+    ap₂ (λ (a b : ℕ). record { lower = a; upper = b })
+    (c .before .before .damage-at .ensures ∙ ap damage (back (p .lower) (told .0 .1)))
+    (c .damage-at2 .ensures ∙ ap damage (back (p .upper) (told .1 .0 .1)))
+
+pub reading-of-spec : {M : Type 1} → statement M
+reading-of-spec = tie.close (tie.spec damage-at-requires damage-at-requires-2 returns)

@@ -1,0 +1,87 @@
+-- What an accepted case's answer frame is (document 01, "The answer frame", "What exact means"), and what the entries promise.
+-- The interval ends are open: they enclose their value within the written width. All else is an equation.
+use Prim.Native.Nat.{ℕ, _^_, _<_}
+use mathlib.Core.Path.{_≡_}
+use mathlib.Core.List.{List}
+use lib.ListN.{length, take, drop}
+use Rattle.exact.specs.Formula.{Formula}
+use Rattle.exact.specs.Exact.{Holds, AnyTwoMeet}
+use Rattle.span.specs.Wholes.{wholes, Closed}
+use Rattle.fixed.specs.Millis.{millis}
+use Rattle.guidance.specs.declared.Case.{Case}
+use Rattle.guidance.specs.Clouds.{rangeOf}
+use Rattle.guidance.specs.Waves.{standardAir, overpressure, impulse}
+use Rattle.guidance.specs.Probits.{probit1, probit2, probit3, probit4, probit5}
+use Rattle.guidance.specs.Damage.{damage}
+use Rattle.frame.specs.declared.Verdict.{Verdict}
+use Rattle.frame.specs.declared.Verdict.the-variants.{Accepted, Refused}
+use Rattle.frame.specs.Verdicts.{frameVerdict, lineVerdict}
+use Rattle.layout.specs.declared.Ends.{Ends}
+use Rattle.layout.specs.declared.Probit.{Probit}
+use Rattle.layout.specs.declared.Probits.{Probits}
+use Rattle.layout.specs.declared.Damages.{Damages}
+use Rattle.layout.specs.Places.{answerBytes}
+use Rattle.probits.specs.Promises.{Thousandth}
+
+-- an overpressure in Pa or an impulse in Pa·s: the interval holds the exact value for every N, any two of the value's brackets meet,
+-- and 10,000 × (upper - lower) is at most 20,000 + lower
+pub record WaveEnds (x : Formula) (e : Ends) : Type 0 where
+  pub holds : Holds (wholes (e .lower) (e .upper)) x
+  pub meet : AnyTwoMeet x
+  pub closed : Closed 10000 (e .lower) (e .upper)
+  pub fits : e .upper < 2 ^ 32
+
+-- a probit in thousandths: the same, and upper - lower is at most 2
+pub record ProbitEnds (x : Formula) (p : Probit) : Type 0 where
+  pub holds : Holds (millis (p .lower) (p .upper)) x
+  pub meet : AnyTwoMeet x
+  pub closed : Thousandth (p .lower) (p .upper)
+
+-- the lower damage is read at the lower end of the probit, the upper at the upper end
+unfoldable pub reading : Probit → Ends
+reading p = record { lower = damage (p .lower); upper = damage (p .upper) }
+
+unfoldable pub readings : Probits → Damages
+readings p =
+    record {
+      first = reading (p .first);
+      second = reading (p .second);
+      third = reading (p .third);
+      fourth = reading (p .fourth);
+      fifth = reading (p .fifth);
+    }
+
+-- DEMAND 3, of one answer frame: its 77 bytes are the range, the ends of the seven intervals and the ten damages in their places
+pub record Answer (c : Case) (bytes : List ℕ) : Type 0 where
+  pub size : length bytes ≡ 77
+  pub pascals : Ends
+  pub pascalSeconds : Ends
+  pub probits : Probits
+  pub are : bytes ≡ answerBytes (rangeOf c) pascals pascalSeconds probits (readings probits)
+  pub pressure-ends : WaveEnds (overpressure standardAir c) pascals
+  pub impulse-ends : WaveEnds (impulse standardAir c) pascalSeconds
+  pub first : ProbitEnds (probit1 standardAir c) (probits .first)
+  pub second : ProbitEnds (probit2 standardAir c) (probits .second)
+  pub third : ProbitEnds (probit3 standardAir c) (probits .third)
+  pub fourth : ProbitEnds (probit4 standardAir c) (probits .fourth)
+  pub fifth : ProbitEnds (probit5 standardAir c) (probits .fifth)
+
+-- an accepted case writes the area's first 77 bytes only
+pub record Wrote (c : Case) (before after : List ℕ) : Type 0 where
+  pub answer : Answer c (take 77 after)
+  pub rest : drop 77 after ≡ drop 77 before
+  pub same : length after ≡ length before
+
+-- by the verdict: a refusal leaves the area as it was
+abbrev pub Answered : (v : Verdict) (before after : List ℕ) → Type 0
+Answered (Accepted c) before after = Wrote c before after
+Answered (Refused r) before after = after ≡ before
+
+-- the entries: what comes back is the verdict, and the area is as the verdict says; a line is judged as the frame that it spells
+pub record FromFrame (frame before : List ℕ) (v : Verdict) (after : List ℕ) : Type 0 where
+  pub verdict : v ≡ frameVerdict frame (length before)
+  pub area : Answered v before after
+
+pub record FromLine (line before : List ℕ) (v : Verdict) (after : List ℕ) : Type 0 where
+  pub verdict : v ≡ lineVerdict line (length before)
+  pub area : Answered v before after

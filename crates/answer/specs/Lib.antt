@@ -1,0 +1,4 @@
+pub mod Answer
+pub mod KnownCases
+pub mod Steps
+pub mod laws

@@ -1,0 +1,30 @@
+-- What the private steps of the entries promise: the numbers of an answer, before they are written. Assumes nothing.
+use Prim.Native.Nat.{ℕ, _≤_}
+use mathlib.Core.Path.{_≡_}
+use mathlib.Core.List.{List}
+use lib.ListN.{length}
+use Rattle.guidance.specs.declared.Case.{Case}
+use Rattle.guidance.specs.Cases.{Accepted}
+use Rattle.guidance.specs.Clouds.{rangeOf}
+use Rattle.guidance.specs.Waves.{standardAir, overpressure, impulse}
+use Rattle.guidance.specs.Probits.{probit1, probit2, probit3, probit4, probit5}
+use Rattle.layout.specs.declared.Ends.{Ends}
+use Rattle.layout.specs.declared.Probits.{Probits}
+use Rattle.answer.specs.declared.Figures.{Figures}
+use Rattle.answer.specs.Answer.{WaveEnds, ProbitEnds}
+
+pub record FiguresOf (c : Case) (f : Figures) : Type 0 where
+  pub range : f .range ≡ rangeOf c
+  pub small : f .range ≤ 6
+  pub pressure-ends : WaveEnds (overpressure standardAir c) (f .pressure)
+  pub impulse-ends : WaveEnds (impulse standardAir c) (f .impulse)
+  pub first : ProbitEnds (probit1 standardAir c) (f .probits .first)
+  pub second : ProbitEnds (probit2 standardAir c) (f .probits .second)
+  pub third : ProbitEnds (probit3 standardAir c) (f .probits .third)
+  pub fourth : ProbitEnds (probit4 standardAir c) (f .probits .fourth)
+  pub fifth : ProbitEnds (probit5 standardAir c) (f .probits .fifth)
+
+-- an accepted case and room for its answer
+pub record Due (c : Case) (area : List ℕ) : Type 0 where
+  pub accepted : Accepted standardAir c
+  pub room : 77 ≤ length area

@@ -1,0 +1,110 @@
+-- Powers and roots by ln, a multiple and e^: windows, widths and what they enclose, from the promises of the calls. Assumes nothing.
+use mathlib.Core.Path.{_≡_}
+use Prim.Native.Nat.{ℕ, _+_, _*_, _^_, _≤_, _<_}
+use native.Mathlib.Omega.{arith}
+use Rattle.exact.specs.Fraction.{Ratio, whole, ofRatio}
+use Rattle.exact.specs.Formula.{Formula, const}
+use Rattle.exact.specs.laws.Steps.{const-inside}
+use Rattle.span.specs.declared.Span.{Span}
+use Rattle.span.specs.Spans.{hull, wholeF, Normal, Width, Whole, Quotient}
+use Rattle.span.specs.Enclosing.{Encloses, quotient-encloses, divisor, wider}
+use Rattle.fixed.specs.declared.Log.{Log}
+use Rattle.fixed.specs.Logs.{Narrow, Small}
+use Rattle.fixed.specs.Promises.{Scalable, Scaled}
+use Rattle.fixed.specs.Enclosing.{scaled-encloses, ratio-value, larger, wider as narrower}
+use Rattle.enclosure.specs.Promises.{enough, reach, Loggable, Logarithm, Exponent, Exponential}
+use Rattle.enclosure.specs.Enclosing.{logarithm-encloses, expo-encloses, logarithm-small}
+use Rattle.guidance.specs.Waves.{tenths}
+use Rattle.probits.specs.Steps.{Based, RatioPower, Rootable, Root}
+
+-- a whole number as the guidance writes it
+pub whole-number : {m : ℕ} {r : Span} → Whole m r → (n : ℕ) → Encloses r (const (ofRatio (whole m))) n
+unfolding wholeF ofRatio whole
+whole-number {m} {r} w n =
+    record {
+      inside =
+          const-inside (ofRatio (whole m)) n (hull r)
+          (record { above = record { cross = omega (arith, w .holds .above .cross) }; below = record { cross = omega (arith, w .holds .below .cross) } });
+    }
+
+-- (a/x)^(t/10)
+module _ {a x : Span} {t : ℕ} (b : Based a x t) {q : Span} (p : Quotient a x q) where
+  quotient-width : Width q 2053
+  quotient-width = p .width 1 2048 (b .exact) (b .narrow)
+
+  pub quotient-loggable : Loggable q
+  quotient-loggable =
+      record { normal = p .normal; far = divisor (p .normal) quotient-width (omega arith); most = omega (arith, b .most, b .lower, p .most) }
+
+  module _ {l : Log} (g : Logarithm q l) where
+    small : Small l (reach 60 + 2053 + 18)
+    small = logarithm-small 60 g quotient-width (omega arith) (omega (arith, b .least, b .upper, p .least)) (omega (arith, b .most, b .lower, p .most))
+
+    pub quotient-scalable : Scalable (1000 * t) l
+    quotient-scalable = record { left = g .ordered; small = larger (omega arith) small; factor = omega (arith, b .tenths) }
+
+    module _ {y : Log} (s : Scaled (1000 * t) 10000 l y) where
+      narrow : Narrow y 23404
+      narrow = s .width 2071 23403 (g .width 2053 quotient-width (omega arith)) (omega (arith, b .tenths))
+
+      scaled-small : Small y 513709023366
+      scaled-small = s .small (reach 60 + 2053 + 18) 513709023366 small (omega (arith, b .tenths))
+
+      pub power-exponent : Exponent y
+      power-exponent =
+          record {
+            ordered = s .ordered;
+            narrow = narrower (omega arith) narrow;
+            least = omega (arith, scaled-small .lo-dn);
+            most = omega (arith, scaled-small .hi-up);
+          }
+
+      pub ratio-power : {r : Span} → Exponential y r → RatioPower a x t r
+      ratio-power e =
+          record {
+            normal = e .normal;
+            encloses = λ u v n o h k.
+                expo-encloses e o (scaled-encloses s (ratio-value (tenths t) (1000 * t) 10000 (omega arith)) (logarithm-encloses g o (quotient-encloses p h k)));
+            width = wider (omega arith) (e .width 23404 narrow);
+            least = omega (arith, e .least 691 (omega (arith, scaled-small .hi-dn)));
+            most = omega (arith, e .most 691 (omega (arith, scaled-small .hi-up)));
+          }
+
+-- n^(p/6)
+module _ {n p : ℕ} (b : Rootable n p) {a : Span} (w : Whole n a) where
+  pub root-loggable : Loggable a
+  root-loggable =
+      record { normal = w .normal; far = divisor (w .normal) (w .width) (omega arith); most = omega (arith, w .most 17 (b .most)) }
+
+  module _ {l : Log} (g : Logarithm a l) where
+    root-small : Small l (reach 17 + 2 + 18)
+    root-small = logarithm-small 17 g (w .width) (omega arith) (omega (arith, w .least 0 (b .least))) (omega (arith, w .most 17 (b .most)))
+
+    pub root-scalable : Scalable p l
+    root-scalable = record { left = g .ordered; small = larger (omega arith) root-small; factor = omega (arith, b .sixths) }
+
+    module _ {y : Log} (s : Scaled p 6 l y) where
+      root-narrow : Narrow y 11
+      root-narrow = s .width 20 10 (g .width 2 (w .width) (omega arith)) (omega (arith, b .sixths))
+
+      root-scaled : Small y 6728872697
+      root-scaled = s .small (reach 17 + 2 + 18) 6728872697 root-small (omega (arith, b .sixths))
+
+      pub root-exponent : Exponent y
+      root-exponent =
+          record {
+            ordered = s .ordered;
+            narrow = narrower (omega arith) root-narrow;
+            least = omega (arith, root-scaled .lo-dn);
+            most = omega (arith, root-scaled .hi-up);
+          }
+
+      pub root-of : {r : Span} → Exponential y r → Root n p r
+      root-of e =
+          record {
+            normal = e .normal;
+            encloses = λ q m i o. expo-encloses e o (scaled-encloses s (ratio-value q p 6 i) (logarithm-encloses g o (whole-number w m)));
+            width = wider (omega arith) (e .width 11 root-narrow);
+            least = omega (arith, e .least 10 (omega (arith, root-scaled .hi-dn)));
+            most = omega (arith, e .most 10 (omega (arith, root-scaled .hi-up)));
+          }

@@ -1,0 +1,10 @@
+-- The laws of the definitions.
+pub mod Settled
+pub mod Lines
+pub mod Digits
+pub mod Writers
+pub mod Texts
+pub mod Caps
+pub mod Reaching
+pub mod Runs
+pub mod Examples
