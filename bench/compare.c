@@ -1,0 +1,158 @@
+/* Holds reckon's records against a peer's: `compare LINES RECKON PEER meet|inside`.
+   Every verdict is worked anew from the line; reckon's intervals are held to the widths and its damages to its own ends;
+   the peer's intervals must meet reckon's, or lie inside them. Exit status 0 where nothing is wrong. */
+#include "shared.h"
+
+#include <stdio.h>
+#include <stdlib.h>
+#include <string.h>
+
+struct record {
+    int refusal; /* 0: answered */
+    int range;
+    struct figures f;
+    int damage[PROBITS][2];
+};
+
+static uint64_t faults, number;
+
+static void fault(const char *what)
+{
+    if (++faults <= 20)
+        printf("line %llu: %s\n", (unsigned long long)number, what);
+}
+
+static int64_t four(const uint8_t *b) { return (int64_t)b[0] << 24 | b[1] << 16 | b[2] << 8 | b[3]; }
+static int64_t four_signed(const uint8_t *b) { return (int32_t)(uint32_t)four(b); }
+
+/* One record, of the line with this number; 0 where it has another form. */
+static int parse(const char *text, size_t length, struct record *r)
+{
+    char head[24];
+    size_t n = (size_t)sprintf(head, "%llu ", (unsigned long long)number);
+    if (length < n + 2 || memcmp(text, head, n) != 0)
+        return 0;
+    text += n, length -= n;
+    if (text[0] == 'R') {
+        r->refusal = text[1] - '0';
+        return length == 2;
+    }
+    if (text[0] != 'A' || length != 1 + 2 * ANSWER)
+        return 0;
+    uint8_t b[ANSWER];
+    for (int i = 0; i < ANSWER; i++) {
+        const char *digits = "0123456789ABCDEF", *high = strchr(digits, text[1 + 2 * i]), *low = strchr(digits, text[2 + 2 * i]);
+        if (!high || !low || !*high || !*low)
+            return 0;
+        b[i] = (uint8_t)((high - digits) << 4 | (low - digits));
+    }
+    r->refusal = 0;
+    r->range = b[0];
+    for (int end = 0; end < 2; end++) {
+        r->f.pressure[end] = four(b + 1 + 4 * end);
+        r->f.impulse[end] = four(b + 9 + 4 * end);
+        for (int i = 0; i < PROBITS; i++) {
+            r->f.probit[i][end] = four_signed(b + 17 + 8 * i + 4 * end);
+            r->damage[i][end] = b[57 + 4 * i + 2 * end] << 8 | b[58 + 4 * i + 2 * end];
+        }
+    }
+    return 1;
+}
+
+static void hold(const int64_t ours[2], const int64_t theirs[2], int inside, const char *name)
+{
+    char what[200];
+    int good = inside ? ours[0] <= theirs[0] && theirs[1] <= ours[1] : ours[0] <= theirs[1] && theirs[0] <= ours[1];
+    if (good)
+        return;
+    sprintf(what, "%s: the peer has [%lld, %lld], reckon [%lld, %lld]", name, (long long)theirs[0], (long long)theirs[1], (long long)ours[0],
+            (long long)ours[1]);
+    fault(what);
+}
+
+/* An answer's own rules: ends in order, widths, damages. */
+static void rules(const struct record *r)
+{
+    const int64_t *wave[2] = { r->f.pressure, r->f.impulse };
+    for (int i = 0; i < 2; i++)
+        if (wave[i][0] > wave[i][1] || 10000 * (wave[i][1] - wave[i][0]) > 20000 + wave[i][0])
+            fault(i == 0 ? "the pressure's interval is out of order or too wide" : "the impulse's interval is out of order or too wide");
+    for (int i = 0; i < PROBITS; i++) {
+        const int64_t *p = r->f.probit[i];
+        const int *d = r->damage[i];
+        if (p[0] > p[1] || p[1] - p[0] > 2)
+            fault("a probit's interval is out of order or too wide");
+        if (d[0] != damage(p[0]) || d[1] != damage(p[1]))
+            fault("a damage is not the reading at its probit's end");
+        if (rank_of_damage(d[0]) < 0 || rank_of_damage(d[1]) - rank_of_damage(d[0]) > 1)
+            fault("two damages are neither equal nor neighbours");
+    }
+}
+
+static FILE *open_or_end(const char *path)
+{
+    FILE *file = fopen(path, "rb");
+    if (!file) {
+        perror(path);
+        exit(2);
+    }
+    return file;
+}
+
+/* The next line of a file without its LF; -1 at the end. */
+static ssize_t next_line(FILE *file, char **text, size_t *room)
+{
+    ssize_t length = getline(text, room, file);
+    return length > 0 && (*text)[length - 1] == '\n' ? length - 1 : length;
+}
+
+int main(int count, char **words)
+{
+    static const char *const names[PROBITS] = { "Pr1", "Pr2", "Pr3", "Pr4", "Pr5" };
+    if (count != 5 || (strcmp(words[4], "meet") && strcmp(words[4], "inside")))
+        return fprintf(stderr, "compare LINES RECKON PEER meet|inside\n"), 2;
+    int inside = strcmp(words[4], "inside") == 0;
+    FILE *file[3];
+    char *text[3] = { 0 };
+    size_t room[3] = { 0 };
+    uint64_t verdicts[9] = { 0 };
+    for (int i = 0; i < 3; i++)
+        file[i] = open_or_end(words[1 + i]);
+    for (;;) {
+        ssize_t length[3];
+        struct record ours, theirs;
+        struct cloud c;
+        for (int i = 0; i < 3; i++)
+            length[i] = next_line(file[i], &text[i], &room[i]);
+        if (length[0] < 0 || length[1] < 0 || length[2] < 0) {
+            if (length[0] >= 0 || length[1] >= 0 || length[2] >= 0)
+                number++, fault("the three files have different counts of lines");
+            break;
+        }
+        number++;
+        int refusal = decide_line((const uint8_t *)text[0], (size_t)length[0], &c);
+        verdicts[refusal]++;
+        if (!parse(text[1], (size_t)length[1], &ours) || !parse(text[2], (size_t)length[2], &theirs)) {
+            fault("a record has another form");
+            continue;
+        }
+        if (ours.refusal != refusal || theirs.refusal != refusal) {
+            fault("the verdicts differ");
+            continue;
+        }
+        if (refusal > 0)
+            continue;
+        if (ours.range != c.range || theirs.range != c.range)
+            fault("the speed ranges differ");
+        rules(&ours);
+        hold(ours.f.pressure, theirs.f.pressure, inside, "pressure");
+        hold(ours.f.impulse, theirs.f.impulse, inside, "impulse");
+        for (int i = 0; i < PROBITS; i++)
+            hold(ours.f.probit[i], theirs.f.probit[i], inside, names[i]);
+    }
+    printf("%llu lines, %llu accepted, refused", (unsigned long long)number, (unsigned long long)verdicts[0]);
+    for (int i = 1; i < 8; i++)
+        printf(" %d:%llu", i, (unsigned long long)verdicts[i]);
+    printf("; %llu faults\n", (unsigned long long)faults);
+    return faults > 0;
+}

@@ -1,0 +1,188 @@
+/* Makes input lines: `lines COUNT SEED` accepted cases only, `lines COUNT SEED damaged` with one line in six damaged or refused. The same words give the same lines. */
+#include "shared.h"
+
+#include <math.h>
+#include <stdio.h>
+#include <stdlib.h>
+#include <string.h>
+
+static uint64_t state;
+
+/* splitmix64 */
+static uint64_t next(void)
+{
+    uint64_t z = state += 0x9E3779B97F4A7C15u;
+    z = (z ^ z >> 30) * 0xBF58476D1CE4E5B9u;
+    z = (z ^ z >> 27) * 0x94D049BB133111EBu;
+    return z ^ z >> 31;
+}
+
+static uint32_t below(uint32_t n) { return (uint32_t)(next() >> 32) % n; }
+static double unit(void) { return (double)(next() >> 11) / 9007199254740992.0; }
+
+static uint32_t within(double x, uint32_t least, uint32_t most)
+{
+    return x < least ? least : x > most ? most : (uint32_t)x;
+}
+
+/* From least (1 or more) to most: an end, a number near an end, or spread evenly over the logarithm. */
+static uint32_t spread(uint32_t least, uint32_t most)
+{
+    uint32_t kind = below(25), end = below(2) ? least : most;
+    if (kind < 2)
+        return end;
+    if (kind < 4)
+        return within((double)end + below(7) - 3, least, most);
+    return within(exp(log(least) + unit() * (log(most) - log(least))), least, most);
+}
+
+struct fields {
+    uint32_t substance, state, placement, surroundings, mass, mean, stoichiometric, heat, distance, body;
+};
+
+static void put(uint8_t *at, uint32_t value, int size)
+{
+    for (int i = 0; i < size; i++)
+        at[i] = (uint8_t)(value >> 8 * (size - 1 - i));
+}
+
+static void frame_of(const struct fields *f, uint8_t frame[FRAME])
+{
+    put(frame, f->substance, 1), put(frame + 1, f->state, 1), put(frame + 2, f->placement, 1), put(frame + 3, f->surroundings, 1);
+    put(frame + 4, f->mass, 4), put(frame + 8, f->mean, 2), put(frame + 10, f->stoichiometric, 2);
+    put(frame + 12, f->heat, 4), put(frame + 16, f->distance, 4), put(frame + 20, f->body, 2);
+}
+
+/* The distance in cm at which Rx is so much. */
+static double distance_at(const struct cloud *c, double rx)
+{
+    return 100 * rx * cbrt((double)c->joules / c->parts * (c->aerosol ? 0.75 : 1) / AIR);
+}
+
+static void draw(struct fields *f)
+{
+    f->substance = below(76), f->state = below(2), f->placement = below(2), f->surroundings = 1 + below(4);
+    f->mass = spread(1, 1000000000);
+    f->mean = spread(1, 50000), f->stoichiometric = spread(1, 50000);
+    f->heat = below(2) && beta_of(f->substance) ? 0 : spread(1, 150000);
+    f->distance = 1;
+    f->body = spread(1, 500);
+}
+
+/* A cloud whose E is P0 times a cube, at a distance where Rx is a limit of a rule or one centimetre beside it. */
+static void draw_limit(struct fields *f)
+{
+    static const uint32_t limit[] = { 20, 25, 34, 2400 };
+    draw(f);
+    f->placement = 0, f->mean = f->stoichiometric, f->heat = 1013;
+    int aerosol = f->state == 1 && class_of(f->substance) + f->surroundings > 3;
+    uint32_t k = 1 + below(60);
+    f->mass = aerosol ? 3600 * k * k * k : 100 * k * k * k;
+    f->distance = within((double)limit[below(4)] * k * (aerosol ? 3 : 1) + below(3) - 1, 1, 1000000);
+}
+
+/* An accepted case's frame, its distance spread over all rules and heaped at their limits. */
+static void accepted(uint8_t frame[FRAME])
+{
+    static const double limit[] = { 0.2, 0.25, 0.34, 24 };
+    struct fields f;
+    struct cloud c;
+    do {
+        if (below(50) == 0)
+            draw_limit(&f);
+        else {
+            draw(&f);
+            frame_of(&f, frame);
+            if (decide_frame(frame, &c) != 0)
+                continue;
+            uint32_t kind = below(10);
+            double rx = kind == 0 ? limit[below(4)] : exp(log(0.02) + unit() * (log(24) - log(0.02)));
+            f.distance = kind == 1 ? spread(1, 1000000) : within(distance_at(&c, rx) + (kind == 0 ? below(3) - 1.0 : 0), 1, 1000000);
+        }
+        frame_of(&f, frame);
+    } while (decide_frame(frame, &c) != 0);
+}
+
+static size_t spell_out(const uint8_t frame[FRAME], int lower, char *line)
+{
+    for (int i = 0; i < FRAME; i++)
+        sprintf(line + 2 * i, lower ? "%02x" : "%02X", frame[i]);
+    return LINE;
+}
+
+/* One way to damage a line, or to make its case one that is refused. */
+static size_t harm(uint8_t frame[FRAME], char *line)
+{
+    static const char strange[] = "gG @/:`{\r\xff\x80\xe1\x01";
+    size_t at = below(LINE), length;
+    switch (below(10)) {
+    case 0: /* a character lost, or the line cut */
+        length = spell_out(frame, 0, line);
+        if (below(2))
+            return at;
+        memmove(line + at, line + at + 1, length - at - 1);
+        return length - 1;
+    case 1: /* a character too many, or hundreds */
+        length = spell_out(frame, 0, line);
+        if (below(2)) {
+            memmove(line + at + 1, line + at, length - at);
+            return length + 1;
+        }
+        memset(line + length, '0', 300);
+        return length + 1 + below(299);
+    case 2: /* no digit */
+        length = spell_out(frame, 0, line);
+        line[at] = strange[below(sizeof strange - 1)];
+        return length;
+    case 3: /* any bytes but LF */
+        for (size_t i = 0; i < LINE; i++)
+            while ((line[i] = (char)below(256)) == '\n')
+                ;
+        return LINE;
+    case 4:
+        frame[0] = (uint8_t)(74 + below(182));
+        break;
+    case 5:
+        frame[1 + below(3)] = (uint8_t)below(7);
+        break;
+    case 6: { /* a quantity at or past its end */
+        static const struct { int at, size; uint32_t most; } field[] = {
+            { 4, 4, 1000000000 }, { 8, 2, 50000 }, { 10, 2, 50000 }, { 12, 4, 150000 }, { 16, 4, 1000000 }, { 20, 2, 500 } };
+        int n = (int)below(6);
+        put(frame + field[n].at, below(3) ? field[n].most + below(3) : 0, field[n].size);
+        break;
+    }
+    case 7: /* heat missing */
+        put(frame + 12, 0, 4);
+        frame[0] = (uint8_t[]){ 0, 25, 47, 46 }[below(4)];
+        break;
+    case 8: { /* beyond, or just not */
+        struct cloud c;
+        decide_frame(frame, &c);
+        put(frame + 16, within(distance_at(&c, below(2) ? 24 : 24 + 40 * unit()) + below(4), 1, 1000000), 4);
+        break;
+    }
+    default: /* bytes anew, so that several tests apply at once */
+        for (int i = 0; i < 3; i++)
+            frame[below(FRAME)] = (uint8_t)below(256);
+    }
+    return spell_out(frame, 0, line);
+}
+
+int main(int count, char **words)
+{
+    if (count < 3)
+        return fprintf(stderr, "lines COUNT SEED [damaged]\n"), 2;
+    uint64_t lines = strtoull(words[1], NULL, 10);
+    state = strtoull(words[2], NULL, 10);
+    int damaged = count > 3;
+    for (uint64_t i = 0; i < lines; i++) {
+        uint8_t frame[FRAME];
+        char line[LINE + 400];
+        accepted(frame);
+        size_t length = damaged && below(6) == 0 ? harm(frame, line) : spell_out(frame, damaged && below(8) == 0, line);
+        line[length] = '\n';
+        fwrite(line, 1, length + 1, stdout);
+    }
+    return fflush(stdout) != 0;
+}

@@ -1,0 +1,56 @@
+// The entries for C and other languages: a case answered into a lent area, and its overpressure alone.
+ghost use mathlib.Core.Path.{_≡_};
+ghost use lib.ListN.{length};
+ghost use Rattle.frame.specs.Verdicts.{frameVerdict, lineVerdict};
+ghost use Rattle.linked.specs.Codes.{code, Entered, PressureAnswered};
+use frame::Verdict;
+
+// The air pressure of a frame, Pa, and the bytes of an answer.
+const AIR: u64 = 101300;
+
+const ANSWER: usize = 77;
+
+// 0, or the refusal's number.
+fn code_of(v: Verdict) -> u64
+    ensures { λ n. ⌜ n ≡ code v ⌝ }
+{
+    match v {
+        Verdict::Accepted(_) => 0,
+        Verdict::Refused(r) => frame::number_of(r),
+    }
+}
+
+// A case given as a frame's bytes.
+#[no_mangle]
+pub extern "C" fn yakepuhi_from_frame(frame: &[u8], area: &mut [u8]) -> u64
+    ensures { λ n. ⌜ Entered (frameVerdict (now (frame .entry)) (length (now (area .entry)))) n (now (area .entry)) (now (area .exit)) ⌝ }
+{
+    let v = answer::from_frame(frame, area);
+    code_of(v)
+}
+
+// A case given as a line of hexadecimal digits.
+#[no_mangle]
+pub extern "C" fn yakepuhi_from_line(line: &[u8], area: &mut [u8]) -> u64
+    ensures { λ n. ⌜ Entered (lineVerdict (now (line .entry)) (length (now (area .entry)))) n (now (area .entry)) (now (area .exit)) ⌝ }
+{
+    let v = answer::from_line(line, area);
+    code_of(v)
+}
+
+// The overpressure alone, without the work of the impulse and the probits.
+#[no_mangle]
+pub extern "C" fn yakepuhi_overpressure(frame: &[u8], lower: &mut u64, upper: &mut u64) -> u64
+    ensures { λ n. ⌜ PressureAnswered (now (frame .entry)) (now (lower .entry)) (now (upper .entry)) n (now (lower .exit)) (now (upper .exit)) ⌝ }
+{
+    let v = frame::decide_frame(frame, ANSWER);
+    match v {
+        Verdict::Refused(r) => frame::number_of(r),
+        Verdict::Accepted(c) => {
+            let e = blast::pressure(c, AIR);
+            *lower = e.lower;
+            *upper = e.upper;
+            0
+        }
+    }
+}

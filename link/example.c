@@ -1,0 +1,57 @@
+/* Calls Yakepuhi from C: a case, its overpressure alone, a wrong line and an area that is too short, each printed in readable form. */
+#include "yakepuhi.h"
+
+#include <inttypes.h>
+#include <stdio.h>
+#include <string.h>
+
+static const char *const words[9] = { "accepted", "length", "digit", "substance", "setting", "quantity", "heat", "beyond", "space" };
+
+static uint32_t four(const uint8_t *b) { return (uint32_t)b[0] << 24 | (uint32_t)b[1] << 16 | (uint32_t)b[2] << 8 | b[3]; }
+static int32_t four_signed(const uint8_t *b) { return (int32_t)four(b); }
+static unsigned two(const uint8_t *b) { return (unsigned)b[0] << 8 | b[1]; }
+
+static void print_thousandths(int32_t n) { printf("%s%d.%03d", n < 0 ? "-" : "", (n < 0 ? -n : n) / 1000, (n < 0 ? -n : n) % 1000); }
+
+static void print_answer(const uint8_t a[YAKEPUHI_ANSWER])
+{
+    printf("  speed range   %u\n", a[0]);
+    printf("  overpressure  %" PRIu32 " to %" PRIu32 " Pa\n", four(a + 1), four(a + 5));
+    printf("  impulse       %" PRIu32 " to %" PRIu32 " Pa s\n", four(a + 9), four(a + 13));
+    for (int i = 0; i < 5; i++) {
+        unsigned low = two(a + 57 + 4 * i), high = two(a + 59 + 4 * i);
+        printf("  probit %d      ", i + 1);
+        print_thousandths(four_signed(a + 17 + 8 * i));
+        printf(" to ");
+        print_thousandths(four_signed(a + 21 + 8 * i));
+        printf(", damage %u.%u to %u.%u %%\n", low / 10, low % 10, high / 10, high % 10);
+    }
+}
+
+static void ask(const char *title, const char *line, size_t room)
+{
+    uint8_t area[YAKEPUHI_ANSWER + 3];
+    memset(area, 0xEE, sizeof area);
+    uint64_t refusal = yakepuhi_from_line((const uint8_t *)line, strlen(line), area, room);
+    printf("%s: %s\n", title, words[refusal]);
+    if (refusal == 0)
+        print_answer(area);
+    size_t kept = 0;
+    for (size_t i = refusal == 0 ? YAKEPUHI_ANSWER : 0; i < sizeof area; i++)
+        kept += area[i] == 0xEE;
+    printf("  %zu bytes of the area kept\n", kept);
+}
+
+int main(void)
+{
+    /* 8 t of propane on the ground, 100 m away */
+    static const char line[] = "11000104007A1200057803020000B540000027100046";
+    static const uint8_t frame[YAKEPUHI_FRAME] = { 0x11, 0, 1, 4, 0, 0x7A, 0x12, 0, 5, 0x78, 3, 2, 0, 0, 0xB5, 0x40, 0, 0, 0x27, 0x10, 0, 0x46 };
+    uint64_t lower = 0, upper = 0;
+    ask("a case", line, YAKEPUHI_ANSWER + 3);
+    uint64_t refusal = yakepuhi_overpressure(frame, sizeof frame, &lower, &upper);
+    printf("its overpressure alone: %s\n  %" PRIu64 " to %" PRIu64 " Pa\n", words[refusal], lower, upper);
+    ask("a wrong line", "11000104007A1200057803020000B54000002710004G", YAKEPUHI_ANSWER);
+    ask("a short area", line, YAKEPUHI_ANSWER - 1);
+    return 0;
+}

@@ -1,0 +1,92 @@
+{ Calls Yakepuhi from Free Pascal: a case, its overpressure alone, a wrong line and an area that is too short, each printed in readable form. }
+program example;
+
+{$mode objfpc}{$H+}
+{$linklib linked, static}
+{$linklib c}
+
+const
+  AnswerBytes = 77;
+  Words: array[0..8] of string = ('accepted', 'length', 'digit', 'substance', 'setting', 'quantity', 'heat', 'beyond', 'space');
+  { 8 t of propane on the ground, 100 m away }
+  Line = '11000104007A1200057803020000B540000027100046';
+  Frame: array[0..21] of Byte = ($11, 0, 1, 4, 0, $7A, $12, 0, 5, $78, 3, 2, 0, 0, $B5, $40, 0, 0, $27, $10, 0, $46);
+
+type
+  TArea = array[0..AnswerBytes + 2] of Byte;
+
+{ The promises of these are in yakepuhi.h. }
+function yakepuhi_from_line(line: PByte; lineLength: SizeUInt; area: PByte; areaLength: SizeUInt): QWord; cdecl; external;
+function yakepuhi_overpressure(frame: PByte; frameLength: SizeUInt; lower, upper: PQWord): QWord; cdecl; external;
+
+function Two(const a: TArea; at: Integer): LongWord;
+begin
+  Two := a[at] * 256 + a[at + 1];
+end;
+
+function Four(const a: TArea; at: Integer): LongWord;
+begin
+  Four := Two(a, at) shl 16 or Two(a, at + 2);
+end;
+
+function Thousandths(n: LongInt): string;
+var
+  part: string;
+begin
+  Str(Abs(n) mod 1000 + 1000, part);
+  Str(Abs(n) div 1000, Result);
+  Result := Result + '.' + Copy(part, 2, 3);
+  if n < 0 then Result := '-' + Result;
+end;
+
+function Percent(tenths: LongWord): string;
+begin
+  Str(tenths div 10, Result);
+  Result := Result + '.' + Chr(Ord('0') + tenths mod 10);
+end;
+
+procedure PrintAnswer(const a: TArea);
+var
+  i: Integer;
+begin
+  WriteLn('  speed range   ', a[0]);
+  WriteLn('  overpressure  ', Four(a, 1), ' to ', Four(a, 5), ' Pa');
+  WriteLn('  impulse       ', Four(a, 9), ' to ', Four(a, 13), ' Pa s');
+  for i := 0 to 4 do
+    WriteLn('  probit ', i + 1, '      ', Thousandths(LongInt(Four(a, 17 + 8 * i))), ' to ', Thousandths(LongInt(Four(a, 21 + 8 * i))),
+      ', damage ', Percent(Two(a, 57 + 4 * i)), ' to ', Percent(Two(a, 59 + 4 * i)), ' %');
+end;
+
+procedure Ask(const title, text: string; room: SizeUInt);
+var
+  area: TArea;
+  refusal: QWord;
+  i, first, kept: Integer;
+begin
+  FillChar(area, SizeOf(area), $EE);
+  refusal := yakepuhi_from_line(PByte(PChar(text)), Length(text), @area[0], room);
+  WriteLn(title, ': ', Words[refusal]);
+  first := 0;
+  if refusal = 0 then
+  begin
+    PrintAnswer(area);
+    first := AnswerBytes;
+  end;
+  kept := 0;
+  for i := first to High(area) do
+    if area[i] = $EE then Inc(kept);
+  WriteLn('  ', kept, ' bytes of the area kept');
+end;
+
+var
+  lower, upper, refusal: QWord;
+begin
+  lower := 0;
+  upper := 0;
+  Ask('a case', Line, AnswerBytes + 3);
+  refusal := yakepuhi_overpressure(@Frame[0], SizeOf(Frame), @lower, @upper);
+  WriteLn('its overpressure alone: ', Words[refusal]);
+  WriteLn('  ', lower, ' to ', upper, ' Pa');
+  Ask('a wrong line', Copy(Line, 1, 43) + 'G', AnswerBytes);
+  Ask('a short area', Line, AnswerBytes - 1);
+end.

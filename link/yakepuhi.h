@@ -1,0 +1,45 @@
+/* Yakepuhi for C: the blast of a fuel-air cloud at one receptor, as intervals that hold the exact values of the guidance.
+
+   What the functions below do between being called and returning is proved, for all bytes. Nothing is proved of a caller. A caller owes:
+   - each pointer reaches as many bytes as the length beside it says, or one whole uint64_t, and is not null, even where the length is 0;
+   - no two of a call's pointers reach the same byte, and no other thread writes what they reach during the call.
+
+   Every function gives 0 for an accepted case, else the number of the first refusal that applies:
+   1 length, 2 digit, 3 substance, 4 setting, 5 quantity, 6 heat, 7 beyond, 8 space.
+   After a refusal everything that was lent for writing has the bytes that it had.
+
+   They use no heap, no file and no global state, so any number of threads can call them at once. */
+#ifndef YAKEPUHI_H
+#define YAKEPUHI_H
+
+#include <stddef.h>
+#include <stdint.h>
+
+#ifdef __cplusplus
+extern "C" {
+#endif
+
+/* The bytes of a case frame, the characters of its line, and the bytes of an answer frame. */
+#define YAKEPUHI_FRAME 22
+#define YAKEPUHI_LINE 44
+#define YAKEPUHI_ANSWER 77
+
+/* A case given as the bytes of a frame. Accepted, it writes the answer frame into the first 77 bytes of the area and no others.
+   The answer: the speed range; overpressure in Pa and impulse in Pa s, each a lower and an upper end; five probits in thousandths,
+   signed, lower and upper; five damages in tenths of a percent, lower and upper. High byte first throughout.
+   Each interval meets every bracket of its exact value and is no wider than the width rule; each damage is the reading of the damage
+   table at its probit's end. A frame has no test 2. */
+uint64_t yakepuhi_from_frame(const uint8_t *frame, size_t frame_length, uint8_t *area, size_t area_length);
+
+/* The same for a case given as a line of 44 hexadecimal digits of either letter case, without its LF. */
+uint64_t yakepuhi_from_line(const uint8_t *line, size_t line_length, uint8_t *area, size_t area_length);
+
+/* The overpressure alone of a case given as the bytes of a frame, several times faster: accepted, it sets *lower and *upper to whole
+   pascals that hold the exact value within the width rule. They need not be the ends that yakepuhi_from_frame writes, but both hold the
+   same value. It never gives 2 or 8. */
+uint64_t yakepuhi_overpressure(const uint8_t *frame, size_t frame_length, uint64_t *lower, uint64_t *upper);
+
+#ifdef __cplusplus
+}
+#endif
+#endif
