@@ -1,0 +1,390 @@
+// The test program: the known cases of document 01 that are not proved, the printed examples, and a separate high-precision calculation held against the answers.
+ghost use mathlib.Core.Path.{_≡_};
+ghost use Prim.Native.Nat.{_+_, _≤_, _<_};
+ghost use lib.ListN.{length};
+ghost use Rattle.io.specs.Counts.{Counts};
+use frame::Verdict;
+
+mod figures;
+mod scan;
+
+// The byte that fills an area before its answer.
+const FILL: u8 = 170;
+
+// What a vector shows: 1 or 0 for an accepted case, how many of its tests failed, the sum of its values.
+struct Finding {
+    accepted: u64,
+    faults: u64,
+    sum: u64,
+}
+
+// Counts of a file's vectors.
+struct Tally {
+    accepted: u64,
+    refused: u64,
+    faulty: u64,
+    sum: u64,
+}
+
+fn print(text: &[u8]) {
+    io::write_all(libc::STDOUT_FILENO, text);
+}
+
+fn print_number(n: u64) {
+    io::print_decimal(libc::STDOUT_FILENO, n);
+}
+
+// 0 for an accepted case.
+fn number(v: Verdict) -> u64 {
+    match v {
+        Verdict::Accepted(_) => 0,
+        Verdict::Refused(r) => frame::number_of(r),
+    }
+}
+
+// The verdict's number on a line, with the first `room` bytes of the area lent for its answer.
+fn answer_to(line: &[u8], area: &mut [u8], room: usize) -> u64
+    requires { ⌜ room ≤ length (now area) ⌝ }
+{
+    number(answer::from_line(line, &mut area[..room]))
+}
+
+// Whether the area's bytes from `from` on are as they were.
+fn is_kept(area: &[u8; 80], from: usize) -> bool {
+    let mut at = from;
+    while at < 80 {
+        if area[at] != FILL {
+            return false;
+        }
+        at += 1;
+    }
+    true
+}
+
+fn fault(ok: bool) -> u64
+    ensures { λ r. ⌜ r ≤ 1 ⌝ }
+{
+    if ok { 0 } else { 1 }
+}
+
+// The place after the seven values that start at `from`.
+fn after_values(vector: &[u8], from: usize) -> usize
+    requires { ⌜ from ≤ length (now vector) ⌝ }
+    ensures { λ r. ⌜ r ≤ length (now (vector .entry)) ⌝ }
+{
+    let mut at = from;
+    let mut i: usize = 0;
+    while i < 7 {
+        let w = scan::next_word(vector, at);
+        at = w.next;
+        i += 1;
+    }
+    at
+}
+
+// The seven figures against the seven values that start at `from`.
+fn compare(vector: &[u8], from: usize, area: &[u8; 80], table: &[u8]) -> Finding
+    requires { ⌜ from ≤ length (now vector) ⌝ }
+{
+    let mut at = from;
+    let mut i = 0;
+    let mut faults = 0;
+    let mut sum = 0;
+    while i < 7 {
+        let w = scan::next_word(vector, at);
+        let ok = figures::is_right(area, i, w.lead, w.value, table);
+        faults = scan::sum(faults, fault(ok));
+        sum = scan::sum(sum, w.value);
+        at = w.next;
+        i += 1;
+    }
+    Finding {
+        accepted: 1,
+        faults,
+        sum,
+    }
+}
+
+// A vector that is to be accepted: its values start at `from`, its line follows them.
+fn judge_accepted(vector: &[u8], from: usize, room: usize, range: u64, table: &[u8]) -> Finding
+    requires { ⌜ (from ≤ length (now vector)) × (room ≤ 80) ⌝ }
+{
+    let at = after_values(vector, from);
+    let mut area = [FILL; 80];
+    let refusal = answer_to(&vector[at..], &mut area, room);
+    let found = compare(vector, from, &area, table);
+    let verdict = fault(refusal == 0);
+    let speed = fault(scan::wide(area[0]) == range);
+    let rest = fault(is_kept(&area, 77));
+    Finding {
+        accepted: 1,
+        faults: scan::sum(found.faults, verdict + speed + rest),
+        sum: found.sum,
+    }
+}
+
+// A vector that is to be refused: its line starts at `from`.
+fn judge_refused(vector: &[u8], from: usize, room: usize, refusal: u64) -> Finding
+    requires { ⌜ (from ≤ length (now vector)) × (room ≤ 80) ⌝ }
+{
+    let mut area = [FILL; 80];
+    let found = answer_to(&vector[from..], &mut area, room);
+    let verdict = fault(found == refusal);
+    let rest = fault(is_kept(&area, 0));
+    Finding {
+        accepted: 0,
+        faults: verdict + rest,
+        sum: refusal,
+    }
+}
+
+fn room_of(value: u64) -> usize
+    ensures { λ r. ⌜ r ≤ 80 ⌝ }
+{
+    if value < 80 { value as usize } else { 80 }
+}
+
+// A vector: the room, A with the range or R with the refusal, the values, the line.
+fn judge(vector: &[u8], table: &[u8]) -> Finding {
+    let first = scan::next_word(vector, 0);
+    let verdict = scan::next_word(vector, first.next);
+    let room = room_of(first.value);
+    if verdict.lead == b'A' {
+        return judge_accepted(vector, verdict.next, room, verdict.value, table);
+    }
+    judge_refused(vector, verdict.next, room, verdict.value)
+}
+
+// A vector with a fault is shown.
+fn show_fault(faults: u64, vector: &[u8]) {
+    if faults == 0 {
+        return;
+    }
+    print(b"fault: ");
+    print(vector);
+    print(b"\n");
+}
+
+fn counted(t: Tally, f: Finding) -> Tally {
+    Tally {
+        accepted: scan::sum(t.accepted, f.accepted),
+        refused: scan::sum(t.refused, fault(f.accepted == 1)),
+        faulty: scan::sum(t.faulty, fault(f.faults == 0)),
+        sum: scan::sum(t.sum, f.sum),
+    }
+}
+
+// Every vector of a file.
+fn judge_all(text: &[u8], table: &[u8]) -> Tally {
+    let mut t = Tally {
+        accepted: 0,
+        refused: 0,
+        faulty: 0,
+        sum: 0,
+    };
+    let mut at = 0;
+    while at < text.len() {
+        let end = scan::line_end(text, at);
+        let f = judge(&text[at..end], table);
+        show_fault(f.faults, &text[at..end]);
+        t = counted(t, f);
+        at = end + 1;
+    }
+    t
+}
+
+// A count and what it counts.
+fn print_count(n: u64, what: &[u8]) {
+    print_number(n);
+    print(what);
+}
+
+fn report(name: &[u8], t: Tally) {
+    print(name);
+    print(b": ");
+    print_count(scan::sum(t.accepted, t.refused), b" lines, ");
+    print_count(t.accepted, b" accepted, ");
+    print_count(t.refused, b" refused, ");
+    print_count(t.faulty, b" with a fault; sum of the values ");
+    print_count(t.sum, b"\n");
+}
+
+// Reads a file of the data into the space, and answers its length.
+fn load(name: &[u8], space: &mut [u8]) -> usize
+    ensures { λ r. ⌜ Counts r (now (space .exit)) ⌝ }
+{
+    let fd = os::open_read(name);
+    let n = io::read_full(fd, space);
+    libc::close(fd);
+    n
+}
+
+fn group(name: &[u8], table: &[u8]) {
+    let mut space = io::large_buffer();
+    let n = load(name, &mut space);
+    let tally = judge_all(&space[..n], table);
+    report(name, tally);
+}
+
+// A word in two's complement.
+fn print_signed(w: u64)
+    requires { ⌜ w < 4294967296 ⌝ }
+{
+    if w < 2147483648 {
+        print_number(w);
+        return;
+    }
+    print(b"-");
+    print_number(4294967296 - w);
+}
+
+fn print_interval(area: &[u8; 80], at: usize)
+    requires { ⌜ at + 7 < 80 ⌝ }
+{
+    print(b" ");
+    print_signed(figures::four(area, at));
+    print(b"..");
+    print_signed(figures::four(area, at + 4));
+}
+
+// The seven intervals of an answer: pressure, impulse, and the five probits in thousandths.
+fn print_intervals(area: &[u8; 80]) {
+    let mut i = 0;
+    while i < 7 {
+        print_interval(area, 1 + 8 * i);
+        i += 1;
+    }
+}
+
+fn print_damage(area: &[u8; 80], at: usize)
+    requires { ⌜ at + 3 < 80 ⌝ }
+{
+    print(b" ");
+    print_number(figures::two(area, at));
+    print(b"..");
+    print_number(figures::two(area, at + 2));
+}
+
+// The five pairs of damages, in tenths of a percent.
+fn print_damages(area: &[u8; 80]) {
+    let mut i = 0;
+    while i < 5 {
+        print_damage(area, 57 + 4 * i);
+        i += 1;
+    }
+}
+
+// A printed example: 44 digits, a space, and what its paper prints.
+fn show(example: &[u8]) {
+    if example.len() < 45 {
+        return;
+    }
+    let mut area = [FILL; 80];
+    let line = &example[0..44];
+    answer_to(line, &mut area, 77);
+    print(&example[45..]);
+    print(b"\n answered:");
+    print_intervals(&area);
+    print(b"\n damage:");
+    print_damages(&area);
+    print(b"\n");
+}
+
+fn show_all(text: &[u8]) {
+    let mut at = 0;
+    while at < text.len() {
+        let end = scan::line_end(text, at);
+        show(&text[at..end]);
+        at = end + 1;
+    }
+}
+
+fn show_examples() {
+    let mut space = io::buffer();
+    let n = load(b"printed", &mut space);
+    show_all(&space[..n]);
+}
+
+// Whether the interval at `at` of the line's answer lies within the two numbers.
+fn is_within(line: &[u8], at: usize, least: u64, most: u64) -> bool
+    requires { ⌜ at + 7 < 80 ⌝ }
+{
+    let mut area = [FILL; 80];
+    let refusal = answer_to(line, &mut area, 77);
+    if refusal != 0 {
+        return false;
+    }
+    if figures::four(&area, at) < least {
+        return false;
+    }
+    figures::four(&area, at + 4) <= most
+}
+
+// A figure that document 01 calls near: the interval's place in the answer, two numbers around the figure, the line.
+fn is_near(near: &[u8]) -> bool {
+    let at = scan::next_word(near, 0);
+    let least = scan::next_word(near, at.next);
+    let most = scan::next_word(near, least.next);
+    if 72 < at.value {
+        return false;
+    }
+    let from = most.next;
+    is_within(&near[from..], at.value as usize, least.value, most.value)
+}
+
+// A file's figures: how many there are, and how many are not near.
+struct Nearness {
+    lines: u64,
+    far: u64,
+}
+
+fn figures_near(text: &[u8]) -> Nearness {
+    let mut lines = 0;
+    let mut far = 0;
+    let mut at = 0;
+    while at < text.len() {
+        let end = scan::line_end(text, at);
+        lines = scan::sum(lines, 1);
+        far = scan::sum(far, fault(is_near(&text[at..end])));
+        at = end + 1;
+    }
+    Nearness { lines, far }
+}
+
+fn show_near() {
+    let mut space = io::buffer();
+    let n = load(b"near", &mut space);
+    let found = figures_near(&space[..n]);
+    print_count(found.lines, b" near figures, ");
+    print_count(found.far, b" with a fault\n");
+}
+
+// Table 3 around its ends.
+fn show_readings() {
+    let below = fault(guidance::damage_at(2669) == 0);
+    let first = fault(guidance::damage_at(2670) == 10);
+    let before = fault(guidance::damage_at(8089) == 998);
+    let last = fault(guidance::damage_at(8090) == 999);
+    print_count(
+        below + first + before + last,
+        b" of 4 readings of Table 3 with a fault\n",
+    );
+}
+
+fn main() {
+    show_near();
+    show_readings();
+    let mut space = io::buffer();
+    let n = load(b"table", &mut space);
+    let table = &space[..n];
+    group(b"known", table);
+    group(b"examples", table);
+    group(b"substances", table);
+    group(b"classes", table);
+    group(b"branches", table);
+    group(b"boundaries", table);
+    group(b"extremes", table);
+    group(b"refusals", table);
+    group(b"random", table);
+    show_examples();
+}

@@ -1,0 +1,580 @@
+#!/usr/bin/env python3
+"""A separate calculation of document 01's values in 60 digits, written from documents 01 and 003 alone.
+
+  reference.py lines FILE            the verdict and the seven values of each line of FILE
+  reference.py check FILE ANSWERS    holds reckon's output ANSWERS for the lines of FILE against this calculation
+  reference.py random COUNT [SEED]   COUNT input lines, biased to corners
+  reference.py against RECKON COUNT [SEED]   runs the program RECKON on COUNT random lines and checks its output
+  reference.py vectors DIRECTORY     the data of the program known_cases, the same at every run
+  reference.py examples              the printed examples of 003 and 004 beside this calculation's values
+
+`check` and `against` print a line for every fault, and last the counts; their exit status is 0 where there is no fault.
+Everything that document 01 decides exactly is decided here with fractions. FILE and ANSWERS may be - for standard input.
+"""
+import os
+import subprocess
+import sys
+from fractions import Fraction
+
+from mpmath import mp, mpf
+
+mp.dps = 60
+
+# 003, Table 1: beta in hundredths, None for the dash; each column read downward.
+CLASS1 = [110, 103, 273, 44, 41, 105, 25, 70, 62, 30]
+CLASS2 = [67, 62, 104, 100, 100, 100, 105, 104, 32, 108, 107, 100, 66, 77, None, 77, 82]
+CLASS3 = [56, 65, 100, 51, 42, 100, 38, 100, 70, 53, 79, 76, 71, 100, 77, 34, 52, 62, 69, None, 79, 69, 100, 46, 43,
+          100, 84, 9, 100, 80]
+CLASS4 = [42, 88, 100, 100, 42, 100, 100, 114, 100, 53, 12, 91, 23, 92, 52, 90, 25, 14]
+SUBSTANCES = {0: (1, None)}
+for cls, column in enumerate((CLASS1, CLASS2, CLASS3, CLASS4), start=1):
+    for beta in column:
+        SUBSTANCES[len(SUBSTANCES)] = (cls, beta)
+
+# 003, Table 3: probability in tenths of a percent against the probit in hundredths.
+PROBITS = """267 295 312 325 338 345 352 359 366 372 377 382 386 392 396 401 405 408 412 416 419 423 426 429 433 436
+439 442 445 448 450 453 456 459 461 464 467 469 472 475 477 480 482 485 487 490 492 495 497 500 503 505 508 510 513 515
+518 520 523 525 528 531 533 536 539 541 544 547 550 552 555 558 561 564 567 571 574 577 581 584 588 592 595 599 604 608
+613 618 623 628 634 641 648 655 664 675 688 705 733 737 741 746 751 758 765 775 788 809""".split()
+TABLE3 = list(zip([10 * p for p in range(1, 100)] + list(range(991, 1000)), map(int, PROBITS)))
+assert len(SUBSTANCES) == 76 and len(TABLE3) == 108
+
+P0 = 101300
+C0 = 340
+HEX = b'0123456789abcdefABCDEF'
+SIZES = (1, 1, 1, 1, 4, 2, 2, 4, 4, 2)
+LIMITS = ((1, 10**9), (1, 50000), (1, 50000), (0, 150000), (1, 10**6), (1, 500))
+ANSWER = 77
+
+
+# The rules of document 01.
+
+def damage(thousandths):
+    """The greatest tabulated probability whose probit is not above, in tenths of a percent."""
+    return max([p for p, probit in TABLE3 if 10 * probit <= thousandths], default=0)
+
+
+def fields(frame):
+    """The ten fields of a frame of 22 bytes."""
+    out, at = [], 0
+    for size in SIZES:
+        out.append(int.from_bytes(frame[at:at + size], 'big'))
+        at += size
+    return out
+
+
+def decide(line, room=ANSWER):
+    """A refusal number, or the accepted case's (fields, speed range, energy, cube of Rx)."""
+    if len(line) != 44:
+        return 1
+    if any(ch not in HEX for ch in line):
+        return 2
+    return decide_frame(bytes.fromhex(line.decode()), room)
+
+
+def decide_frame(frame, room=ANSWER):
+    substance, state, placement, around, mass, c, s, heat, r, body = case = fields(frame)
+    if substance > 75:
+        return 3
+    if state > 1 or placement > 1 or not 1 <= around <= 4:
+        return 4
+    if any(not low <= value <= high for value, (low, high) in zip(case[4:], LIMITS)):
+        return 5
+    if heat == 0 and SUBSTANCES[substance][1] is None:
+        return 6
+    speed, energy = cloud(case)
+    cube = Fraction(r, 100)**3 * P0 / energy
+    if cube > 24**3:
+        return 7
+    if room < ANSWER:
+        return 8
+    return case, speed, energy, cube
+
+
+def cloud(case):
+    """The speed range and the energy in joules of a case that has a heat."""
+    substance, state, placement, around, mass, c, s, heat, _, _ = case
+    cls, beta = SUBSTANCES[substance]
+    speed = max(1, cls + around - 2)
+    energy = Fraction(mass * (heat if heat else 440 * beta))
+    if placement == 1:
+        energy *= 2
+    if c > s:
+        energy *= Fraction(s, c)
+    if state == 1 and speed >= 2:
+        energy *= Fraction(3, 4)
+    return speed, energy
+
+
+def real(q):
+    return mpf(q.numerator) / q.denominator
+
+
+def detonation(state, cube, rx):
+    """Px and Ix of a detonation, and whether the near field rule holds."""
+    if state == 0:
+        near = cube < Fraction(8, 1000)
+        log = mp.log(mpf('0.142') if near else rx)
+        px = mpf(18) if near else mp.exp(mpf('-1.124') - mpf('1.66') * log + mpf('0.26') * log**2)
+        ix = mp.exp(mpf('-3.4217') - mpf('0.898') * log - mpf('0.0096') * log**2)
+    else:
+        near = cube < Fraction(15625, 10**6)
+        px = mpf(18) if near else mpf('0.125') / rx + mpf('0.137') / rx**2 + mpf('0.023') / rx**3
+        ix = mpf('0.16') if near else mpf('0.022') / rx
+    return px, ix, near
+
+
+def deflagration(case, speed, cube, rx):
+    """Px and Ix of a deflagration by its own formulas, and whether 0.34 stands for Rx."""
+    kg = mpf(case[4]) / 1000
+    v = {2: mpf(500), 3: mpf(300), 4: mpf(200), 5: 43 * mp.root(kg, 6), 6: 26 * mp.root(kg, 6)}[speed]
+    sigma = 7 if case[1] == 0 else 4
+    w, g = v / C0, mpf(sigma - 1) / sigma
+    under = cube < Fraction(39304, 10**6)
+    x = mpf('0.34') if under else rx
+    px = w**2 * g * (mpf('0.83') / x - mpf('0.14') / x**2)
+    ix = w * g * (1 - mpf('0.4') * g * w) * (mpf('0.06') / x + mpf('0.01') / x**2 - mpf('0.0025') / x**3)
+    return px, ix, under
+
+
+def reduced_distance(case, energy):
+    return mpf(case[8]) / 100 / mp.cbrt(real(energy) / P0)
+
+
+def reduced(case, speed, energy, cube):
+    """Px and Ix, and the name of the branch that they take."""
+    rx = reduced_distance(case, energy)
+    px, ix, near = detonation(case[1], cube, rx)
+    branch = ('gas', 'heterogeneous')[case[1]] + ' range %d' % speed + (' near field' if near else '')
+    if speed >= 2:
+        dp, di, under = deflagration(case, speed, cube, rx)
+        branch += ' at 0.34' if under else ''
+        branch += ' P:' + ('deflagration' if dp < px else 'detonation') + ' I:' + ('deflagration' if di < ix else 'detonation')
+        px, ix = min(px, dp), min(ix, di)
+    return px, ix, branch
+
+
+def values(case, speed, energy, cube):
+    """Overpressure, impulse and the five probits, and the name of the branch."""
+    px, ix, branch = reduced(case, speed, energy, cube)
+    p = px * P0
+    i = ix * mp.cbrt(mpf(P0)**2) * mp.cbrt(real(energy)) / C0
+    probits = (
+        5 - mpf('0.26') * mp.log((17500 / p)**mpf('8.4') + (290 / i)**mpf('9.3')),
+        5 - mpf('0.22') * mp.log((40000 / p)**mpf('7.4') + (460 / i)**mpf('11.3')),
+        5 - mpf('5.74') * mp.log(mpf('4.2') / (1 + p / P0) + mpf('1.3') * mp.sqrt(P0) * mp.cbrt(case[9]) / i),
+        mpf('-12.6') + mpf('1.524') * mp.log(p),
+        5 - mpf('2.44') * mp.log(7380 / p + mpf(1300000000) / (p * i)),
+    )
+    return (p, i) + probits, branch
+
+
+# Holding reckon's output against the rules.
+
+def answer(frame):
+    """The fields of an answer frame of 77 bytes."""
+    word = lambda at, size, signed=False: int.from_bytes(frame[at:at + size], 'big', signed=signed)
+    wave = [(word(at, 4), word(at + 4, 4)) for at in (1, 9)]
+    probits = [(word(at, 4, True), word(at + 4, 4, True)) for at in range(17, 57, 8)]
+    damages = [(word(at, 2), word(at + 2, 2)) for at in range(57, 77, 4)]
+    return word(0, 1), wave, probits, damages
+
+
+NAMES = ('pressure', 'impulse', 'Pr1', 'Pr2', 'Pr3', 'Pr4', 'Pr5')
+
+
+def faults(line, number, text, widest):
+    """What is wrong with one record of reckon's, as a list of sentences."""
+    head, _, body = text.partition(' ')
+    if head != str(number):
+        return ['the record is numbered %s' % head]
+    verdict = decide(line)
+    if isinstance(verdict, int):
+        return [] if body == 'R%d' % verdict else ['refusal %d is due, %s stands' % (verdict, body[:8])]
+    if len(body) != 155 or body[0] != 'A' or any(ch not in '0123456789ABCDEF' for ch in body[1:]):
+        return ['an answer of 154 upper-case digits is due, %s stands' % body[:8]]
+    return frame_faults(verdict, bytes.fromhex(body[1:]), widest)
+
+
+def frame_faults(verdict, frame, widest):
+    """What is wrong with the answer frame of an accepted case; the widest of each interval is noted."""
+    speed, wave, probits, damages = answer(frame)
+    found = [] if speed == verdict[1] else ['range %d is due, %d stands' % (verdict[1], speed)]
+    exact, _ = values(*verdict)
+    for name, (low, high), value in zip(NAMES, wave, exact):
+        if not low <= value <= high:
+            found.append('%s %s lies outside [%d, %d]' % (name, mp.nstr(value, 20), low, high))
+        if 10000 * (high - low) > 20000 + low:
+            found.append('%s [%d, %d] is too wide' % (name, low, high))
+        widest[name] = max(widest.get(name, Fraction(0)), Fraction(max(0, high - low - 2), max(1, low)))
+    for name, (low, high), (less, more), value in zip(NAMES[2:], probits, damages, exact[2:]):
+        if not low <= 1000 * value <= high:
+            found.append('%s %s lies outside [%d, %d] thousandths' % (name, mp.nstr(value, 20), low, high))
+        if high - low > 2:
+            found.append('%s [%d, %d] is too wide' % (name, low, high))
+        widest[name] = max(widest.get(name, 0), high - low)
+        if (less, more) != (damage(low), damage(high)):
+            found.append('%s: damages %d and %d stand, %d and %d are due' % (name, less, more, damage(low), damage(high)))
+    return found
+
+
+def contents(name):
+    if name == '-':
+        return sys.stdin.buffer.read()
+    with open(name, 'rb') as file:
+        return file.read()
+
+
+def lines_of(data):
+    """The lines of an input: a line ends at LF, and the last may lack it."""
+    parts = data.split(b'\n')
+    return parts if parts[-1] else parts[:-1]
+
+
+def check(lines, output):
+    records = output.decode('latin-1').split('\n')
+    bad, accepted, widest = 0, 0, {}
+    if records.pop() != '' or len(records) != len(lines):
+        print('%d records for %d lines' % (len(records), len(lines)))
+        bad += 1
+    for number, (line, text) in enumerate(zip(lines, records), start=1):
+        accepted += ' A' in text
+        for fault in faults(line, number, text, widest):
+            print('line %d: %s' % (number, fault))
+            bad += 1
+    print('%d lines, %d accepted, %d refused, %d faults' % (len(lines), accepted, len(lines) - accepted, bad))
+    if widest:
+        print('beyond 2 units, the widest: pressure %.2g, impulse %.2g of the lower end; probits, in thousandths: %s' % (
+            widest['pressure'], widest['impulse'], ', '.join('%s %d' % (name, widest[name]) for name in NAMES[2:])))
+    return 1 if bad else 0
+
+
+# Lines to try.
+
+def frame_line(case):
+    return b''.join(value.to_bytes(size, 'big') for value, size in zip(case, SIZES)).hex().upper().encode()
+
+
+class Source:
+    """Whole numbers that look random and are the same in every version of Python (SplitMix64)."""
+
+    def __init__(self, seed):
+        self.state = seed
+
+    def below(self, n):
+        self.state = (self.state + 0x9E3779B97F4A7C15) % 2**64
+        z = self.state
+        z = (z ^ z >> 30) * 0xBF58476D1CE4E5B9 % 2**64
+        z = (z ^ z >> 27) * 0x94D049BB133111EB % 2**64
+        return (z ^ z >> 31) * n >> 64
+
+    def choice(self, several):
+        return several[self.below(len(several))]
+
+    def chance(self, percent):
+        return self.below(100) < percent
+
+    def corner(self, low, high):
+        """A whole number from low to high: an end, near an end, or spread over the powers of two."""
+        if self.chance(12):
+            return self.choice((low, high))
+        if self.chance(9):
+            return min(high, max(low, self.choice((low, high)) + self.below(7) - 3))
+        top = 1 << self.below(high.bit_length() + 1)
+        return min(high, max(low, top + self.below(top)))
+
+
+def whole_root(q):
+    """The greatest whole number whose cube is not above the fraction q."""
+    n = q.numerator // q.denominator
+    low, high = 0, 1 << (n.bit_length() // 3 + 1)
+    while high - low > 1:
+        middle = (low + high) // 2
+        low, high = (middle, high) if middle**3 <= n else (low, middle)
+    return low
+
+
+def centimetres(case, rx):
+    """The greatest distance in cm at which Rx is not above rx."""
+    return whole_root(Fraction(rx)**3 * 10**6 * cloud(case)[1] / P0)
+
+
+STEPS = tuple(Fraction(text) for text in ('0.2', '0.25', '0.34', '24'))
+
+
+def random_case(source):
+    substance = source.below(76)
+    case = [substance, source.below(2), source.below(2), 1 + source.below(4)]
+    case += [source.corner(max(1, low), high) for low, high in LIMITS]
+    if source.chance(50) and SUBSTANCES[substance][1] is not None:
+        case[7] = 0
+    verdict = decide(frame_line(case))
+    if verdict == 7 and source.chance(90) or source.chance(40):
+        # where the rules change, or at any Rx up to 24
+        rx = source.choice(STEPS + (Fraction(1 + source.below(2400), 100), Fraction(1 + source.below(100), 100)))
+        case[8] = min(10**6, max(1, centimetres(case, rx) + source.below(4) - 1))
+    return case
+
+
+def random_line(source):
+    line = bytearray(frame_line(random_case(source)))
+    kind = source.below(100)
+    if kind < 2:
+        del line[source.below(44)]
+    elif kind < 4:
+        line.insert(source.below(45), source.choice(HEX))
+    elif kind < 6:
+        line[source.below(44)] = source.choice(b'gG @/:`\r\xff\x00')
+    elif kind < 10:
+        at = 2 * source.below(22)
+        line[at:at + 2] = b'%02X' % source.choice((0, 1, 2, 5, 76, 255, source.below(256)))
+    elif kind < 20:
+        return bytes(line).lower()
+    return bytes(line)
+
+
+def random_lines(count, seed):
+    source = Source(int(seed[0]) if seed else 1)
+    return [random_line(source) for _ in range(count)]
+
+
+# The data of known_cases.
+
+Q = [0, 0, 0, 1, 100, 1, 1, 1013, 100, 70]
+PROPANE = b'11000104007A1200057803020000B540000027100046'
+EXAMPLES = (
+    ('003 example 1', b'11000104007A1200057803020000B540000027100050', '28,000', '20,400', ('6.06', '4.47', '-1.93', '3.06', '2.78')),
+    ('003 example 2', b'15000101000186A0032003840000B3B000003A980050', '6,500', '126.4', ('2.69', '1.69', '-11.67', '0.76', '-13.21')),
+    ('004 at 80 m', b'11000104007A1200057803020000B54000001F400046', '44,000', '28,400', ('6.48', '4.91', '', '', '')),
+    ('004 at 100 m', PROPANE, '28,000', '20,400', ('6.06', '4.47', '', '', '')),
+    ('004 at 135 m', b'11000104007A1200057803020000B540000034BC0046', '19,000', '13,700', ('5.84', '4.12', '', '', '')),
+)
+
+
+# document 01's figures called near: place in the answer, two numbers around the figure, line. A pressure is held to the last place that
+# is printed there, an impulse to the whole numbers around it.
+NEAR = (
+    (1, 32915, 32925, b'000000010000006400010001000003F5000000640046'), (9, 9, 10, b'000000010000006400010001000003F5000000640046'),
+    (9, 6, 7, b'000100010000006400010001000003F5000000640046'), (1, 28950, 29050, PROPANE),
+)
+
+
+def changed(case, **new):
+    names = ('substance', 'state', 'placement', 'around', 'mass', 'c', 's', 'heat', 'r', 'body')
+    return [new.get(name, value) for name, value in zip(names, case)]
+
+
+def known():
+    """Document 01's known cases and the three lines of its section on reckon."""
+    yield frame_line(Q)
+    for r in (19, 20, 21, 2399, 2400, 2401):
+        yield frame_line(changed(Q, r=r))
+    yield frame_line(changed(Q, state=1))
+    for around in (1, 2):
+        yield frame_line(changed(Q, substance=1, around=around))
+    yield frame_line(changed(Q, substance=58, around=4))
+    for substance in (25, 47):
+        yield frame_line(changed(Q, substance=substance, heat=0))
+        yield frame_line(changed(Q, substance=substance, heat=1, r=10))
+    yield frame_line(changed(Q, substance=76, around=5))
+    yield PROPANE
+    yield PROPANE.lower()
+    yield b''
+    yield b'G' * 44
+    yield b'00000001000000640001000100000000000000640046'
+
+
+def substances():
+    """Every substance at its table heat."""
+    for substance in range(76):
+        yield frame_line(changed(Q, substance=substance, state=substance % 2, heat=0, mass=1000000, r=3000))
+
+
+def classes():
+    """Every class in every surroundings, both states, both placements, with and without surplus fuel."""
+    for number, substance in enumerate((3, 17, 40, 65)):
+        for around in range(1, 5):
+            for state in (0, 1):
+                for placement in (0, 1):
+                    c = 700 if (number + around + state) % 2 else 1400
+                    yield frame_line([substance, state, placement, around, 8000000, c, 770, 0, 4000 * around, 60 + 10 * around])
+
+
+def branches(source):
+    """Two cases for every branch of the wave formulas that 40,000 random cases meet."""
+    seen = {}
+    for _ in range(40000):
+        case = random_case(source)
+        verdict = decide(frame_line(case))
+        if not isinstance(verdict, int):
+            seen.setdefault(reduced(*verdict)[2], []).append(case)
+    for branch in sorted(seen):
+        for case in seen[branch][:2]:
+            yield frame_line(case)
+
+
+# cases whose energy is P0 times a cube, with the side of that cube in metres
+CUBES = (
+    (changed(Q), 1), (changed(Q, placement=1, mass=400), 2), (changed(Q, c=2, mass=5400), 3),
+    (changed(Q, state=1), 1), (changed(Q, state=1, c=2, mass=5400), 3),
+    (changed(Q, substance=17, around=2), 1), (changed(Q, substance=58, around=4, placement=1, mass=400), 2),
+    (changed(Q, substance=17, around=2, state=1, placement=1, mass=1800), 3),
+    (changed(Q, substance=58, around=4, state=1, mass=3600), 3),
+    (changed(Q, substance=58, around=2, state=1, c=2, mass=7200), 3),
+)
+
+
+def boundaries():
+    """Rx at 0.2, 0.25, 0.34 and 24 exactly, and one cm to each side."""
+    for case, side in CUBES:
+        assert cloud(case)[1] == P0 * side**3
+        for step in STEPS:
+            for r in (-1, 0, 1):
+                yield frame_line(changed(case, r=int(100 * side * step) + r))
+
+
+def extremes():
+    """The ends of every field, at 1 cm and at the farthest distance that is accepted."""
+    yield b'3A01000400000001C3500001000000010000000101F4'
+    yield b'3A010104000000010003000200018BB40000096001F4'
+    yield b'000001013B9ACA0000010001000249F0000000010001'
+    for mass in (1, 10**9):
+        for heat in (1, 150000):
+            for c in (1, 50000):
+                for substance, around in ((0, 1), (11, 2), (75, 4)):
+                    state = (mass + heat + c + around) % 2
+                    case = [substance, state, 0, around, mass, c, 1, heat, 1, 500]
+                    yield frame_line(case)
+                    yield frame_line(changed(case, state=1 - state, r=min(10**6, centimetres(changed(case, state=1 - state), 24)), body=1))
+
+
+# each refusal's number, and what brings it about: new fields, a new line, or less room
+SPOILED = (
+    (3, dict(substance=76)), (3, dict(substance=255)), (4, dict(state=2)), (4, dict(placement=2)), (4, dict(around=0)), (4, dict(around=5)),
+    (5, dict(mass=0)), (5, dict(mass=10**9 + 1)), (5, dict(c=0)), (5, dict(c=50001)), (5, dict(s=0)), (5, dict(s=50001)),
+    (5, dict(heat=150001)), (5, dict(r=0)), (5, dict(r=10**6 + 1)), (5, dict(body=0)), (5, dict(body=501)),
+    (6, dict(heat=0)), (7, dict(r=2401)), (7, dict(r=10**6)),
+)
+PAIRS = ((3, dict(substance=76)), (4, dict(around=5)), (5, dict(body=0)), (6, dict(heat=0)), (7, dict(r=10**6)))
+
+
+def refusals():
+    """Every refusal alone and with each later one, as pairs of a line and the room for its answer."""
+    line = frame_line(Q)
+    for short in (b'', line[:43], line + b'0', line + b'\r', line + line):
+        yield short, ANSWER
+    for at, ch in ((0, b'G'), (43, b'g'), (20, b' '), (21, b'/'), (22, b':'), (23, b'@'), (24, b'`'), (25, b'\x00'), (26, b'\xff')):
+        yield line[:at] + ch + line[at + 1:], ANSWER
+    for number, new in SPOILED:
+        spoiled = frame_line(changed(Q, **new))
+        assert decide(spoiled) == number
+        yield spoiled, ANSWER
+        yield b'g' + spoiled[1:], ANSWER
+    for first, one in PAIRS:
+        for second, other in PAIRS:
+            if first < second:
+                spoiled = frame_line(changed(Q, **{**one, **other}))
+                assert decide(spoiled) == first
+                yield spoiled, ANSWER
+        for spoiled, room in ((frame_line(changed(Q, **one)), 76), (b'x' + line[1:-1], ANSWER), (frame_line(changed(Q, **one))[:-1], 0)):
+            yield spoiled, room
+    for room in (76, 75, 1, 0):
+        yield line, room
+    yield frame_line(changed(Q, r=2401)), 0
+    yield line, ANSWER
+
+
+UNIT = 10**12
+
+
+def decimal(value):
+    """The value with twelve places, rounded down; one that is a whole number of places is taken for exact."""
+    scaled = value * UNIT
+    near = mp.nint(scaled)
+    exact = abs(scaled - near) < mpf(10)**-25
+    q = int(near) if exact else int(mp.floor(scaled))
+    assert exact or q % (UNIT // 1000) != 0
+    return '%s%d.%012d' % ('-' if q < 0 else '', abs(q) // UNIT, abs(q) % UNIT)
+
+
+def vector(line, room):
+    """One line of data: the room, the verdict with its values, the input line."""
+    verdict = decide(line, room)
+    if isinstance(verdict, int):
+        return b'%d R%d %s\n' % (room, verdict, line)
+    exact, _ = values(*verdict)
+    return b'%d A%d %s %s\n' % (room, verdict[1], ' '.join(map(decimal, exact)).encode(), line)
+
+
+def vectors(directory):
+    source = Source(1)
+    groups = (
+        ('known', known()), ('examples', (example[1] for example in EXAMPLES)), ('substances', substances()), ('classes', classes()),
+        ('branches', branches(source)), ('boundaries', boundaries()), ('extremes', extremes()), ('refusals', refusals()),
+        ('random', (random_line(source) for _ in range(120))),
+    )
+    for name, several in groups:
+        with open(os.path.join(directory, name), 'wb') as file:
+            for number, item in enumerate(several):
+                line, room = item if isinstance(item, tuple) else (item, ANSWER + number % 4)
+                file.write(vector(line, room))
+    with open(os.path.join(directory, 'table'), 'wb') as file:
+        for tenths, hundredths in TABLE3:
+            file.write(b'%d %d\n' % (tenths, hundredths))
+    with open(os.path.join(directory, 'near'), 'wb') as file:
+        for item in NEAR:
+            file.write(b'%d %d %d %s\n' % item)
+    with open(os.path.join(directory, 'printed'), 'wb') as file:
+        for name, line, pressure, impulse, printed in EXAMPLES:
+            figures = [pressure.replace(',', ''), impulse.replace(',', '')] + [figure for figure in printed if figure]
+            file.write(line + (' %s, printed: %s\n' % (name, ' '.join(figures))).encode())
+    return 0
+
+
+def examples():
+    """The printed examples, each figure beside the value of document 01's rules."""
+    for name, line, pressure, impulse, printed in EXAMPLES:
+        verdict = decide(line)
+        exact, branch = values(*verdict)
+        print('%s: %s' % (name, line.decode()))
+        print('  E %s J, Rx %s, %s' % (mp.nstr(real(verdict[2]), 8), mp.nstr(reduced_distance(verdict[0], verdict[2]), 6), branch))
+        for what, value, shown in zip(NAMES, exact, (pressure, impulse) + printed):
+            read = '' if what in NAMES[:2] else ', damage %.1f %%' % (damage(int(mp.floor(1000 * value))) / 10)
+            print('  %-8s %s%s (printed %s)' % (what, mp.nstr(value, 9), read, shown or 'nowhere'))
+    return 0
+
+
+def show(name):
+    for number, line in enumerate(lines_of(contents(name)), start=1):
+        verdict = decide(line)
+        if isinstance(verdict, int):
+            print(number, 'R%d' % verdict)
+        else:
+            exact, branch = values(*verdict)
+            print(number, 'range %d E %s' % (verdict[1], verdict[2]), *(mp.nstr(x, 20) for x in exact), branch)
+    return 0
+
+
+def main(words):
+    if len(words) == 2 and words[0] == 'lines':
+        return show(words[1])
+    if len(words) == 3 and words[0] == 'check':
+        return check(lines_of(contents(words[1])), contents(words[2]))
+    if len(words) in (3, 4) and words[0] == 'against':
+        lines = random_lines(int(words[2]), words[3:])
+        text = b''.join(line + b'\n' for line in lines)
+        return check(lines, subprocess.run([words[1]], input=text, stdout=subprocess.PIPE, check=True).stdout)
+    if len(words) == 2 and words[0] == 'vectors':
+        return vectors(words[1])
+    if words == ['examples']:
+        return examples()
+    if len(words) in (2, 3) and words[0] == 'random':
+        for line in random_lines(int(words[1]), words[2:]):
+            sys.stdout.buffer.write(line + b'\n')
+        return 0
+    print(__doc__)
+    return 2
+
+
+if __name__ == '__main__':
+    sys.exit(main(sys.argv[1:]))
