@@ -22,10 +22,21 @@ pub record Heated (c : Case) : Type 0 where
 abbrev pub reduction : Bool → Ratio
 reduction aerosol = pick aerosol (over 3 4 (omega arith)) (whole 1)
 
--- the speed range, and E = joules/parts, times 3/4 where `aerosol`
+-- E·parts without the 3/4
+unfoldable pub joulesOf : Case → ℕ
+joulesOf c =
+    c .mass * heatOf (c .substance) (c .heat) * pick (eqb (c .placement) 1) 2 1
+    * pick (ltb (c .stoichiometric) (c .mean)) (c .stoichiometric) 1
+
+unfoldable pub partsOf : Case → ℕ
+partsOf c = pick (ltb (c .stoichiometric) (c .mean)) (c .mean) 1
+
+-- the four words, each by an equation; then what follows of them: E = joules/parts, times 3/4 where `aerosol`
 pub record CloudOf (c : Case) (k : Cloud) : Type 0 where
   pub range : k .range ≡ rangeOf c
   pub aerosol : k .aerosol ≡ (heterogeneous c && deflagrates c)
+  pub joules-is : k .joules ≡ joulesOf c
+  pub parts-is : k .parts ≡ partsOf c
   pub joules : 1 ≤ k .joules
   pub joules-most : k .joules ≤ 15000000000000000000
   pub parts : 0 < k .parts
@@ -42,15 +53,6 @@ pub record Placed (c : Case) (k : Cloud) (air : ℕ) : Type 0 where
 pub record Compared (c : Case) (k : Cloud) (air t : ℕ) : Type 0 where
   pub placed : Placed c k air
   pub most : t ≤ 13824000000
-
--- E·parts without the 3/4
-unfoldable pub joulesOf : Case → ℕ
-joulesOf c =
-    c .mass * heatOf (c .substance) (c .heat) * pick (eqb (c .placement) 1) 2 1
-    * pick (ltb (c .stoichiometric) (c .mean)) (c .stoichiometric) 1
-
-unfoldable pub partsOf : Case → ℕ
-partsOf c = pick (ltb (c .stoichiometric) (c .mean)) (c .mean) 1
 
 -- r³P0 < t·E, in millionths and over parts·4: cm³ times `weightOf` against joules times `scaledBy t`
 unfoldable pub weightOf : Cloud → (air : ℕ) → ℕ

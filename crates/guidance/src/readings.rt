@@ -133,10 +133,16 @@ fn rank(t: &[u16; 108], p: u64) -> u64
     lo as u64
 }
 
-// The damage at p thousandths, from 0 up.
+// The damage at p thousandths, from 0 up. Outside the table it is not looked up: an access copies the whole of it.
 pub fn reading(p: u64) -> u64
     ensures { λ r. ⌜ r ≡ tenthsOfPercent (notAbove table p) ⌝ }
 {
+    if p < 2670 {
+        return 0;
+    }
+    if 8090 <= p {
+        return 999;
+    }
     let t = PROBITS;
     let n = rank(&t, p);
     if n <= 99 { 10 * n } else { 891 + n }

@@ -47,6 +47,8 @@ cloud-is c h k r a j p =
     record {
       range = r;
       aerosol = a;
+      joules-is = j;
+      parts-is = p;
       joules = rw j (joules-least c (h .fields) (h .heat));
       joules-most = rw j (joules-most c (h .fields));
       parts = rw p (parts-least c (h .fields));

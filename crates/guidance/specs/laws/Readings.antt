@@ -105,6 +105,33 @@ count-most (x ∷ xs) p = go (count-most xs p) (leb (10 * x) p)
     go h true = omega arith
     go h false = omega arith
 
+-- Outside the table
+
+from-266 : T (rises 266 table)
+unfolding table
+from-266 = tt
+
+pub before-table : {p : ℕ} → p < 2670 → 0 ≡ tenthsOfPercent (notAbove table p)
+unfolding tenthsOfPercent
+before-table {p} h = rw (none-counted 266 table p from-266 (omega arith)) refl
+
+last-entry : getD table 107 0 ≡ 809
+unfolding table
+last-entry = refl
+
+none-higher : (k : ℕ) → k < 108 → Dec (k < 107) → getD table k 0 ≤ 809
+none-higher k h (yes i) = omega (arith, last-entry, table-entries k 107 i (omega arith))
+none-higher k h (no i) = let same : k ≡ 107 = omega arith in rw same (omega (arith, last-entry))
+
+pub past-table : {p : ℕ} → 8090 ≤ p → 999 ≡ tenthsOfPercent (notAbove table p)
+unfolding tenthsOfPercent
+past-table {p} h =
+    let all : 108 ≡ notAbove table p =
+    count-is table p 108 (omega (arith, table-length)) (λ k i. omega (arith, none-higher k i (decLe (suc k) 107)))
+    (λ k i j. absurd (omega (arith, table-length)))
+    in
+    rw (sym all) refl
+
 pub table-count : (p : ℕ) → notAbove table p ≤ 108
 table-count p = rw table-length at (count-most table p)
 

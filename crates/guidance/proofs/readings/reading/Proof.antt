@@ -3,7 +3,7 @@ use mathlib.Core.Path.{refl}
 use native.Mathlib.Omega.{arith}
 use borrow.Author.Needs.{needs}
 use Rattle.guidance.specs.Damage.{table}
-use Rattle.guidance.specs.laws.Readings.{table-count, tenths-low, tenths-high}
+use Rattle.guidance.specs.laws.Readings.{before-table, past-table, table-count, tenths-low, tenths-high}
 use Rattle.guidance.proofs.readings.reading.Statement.{statement}
 use Rattle.guidance.proofs.readings.reading.Tie as tie
 
@@ -15,13 +15,19 @@ mul-result : tie.Need-mul-result
 mul-result c = search needs
 
 add-result : tie.Need-add-result
-add-result c = omega (arith, table-count (c .before .before .before .args .p))
+add-result c = omega (arith, table-count (c .before .before .before .before .before .args .p))
 
 returns : tie.Need-returns
-returns c = tenths-low (c .before .rank .ensures) (c .if1 .taken)
+returns c = before-table (c .if1 .taken)
 
 returns-2 : tie.Need-returns-2
-returns-2 c = tenths-high (c .before .rank .ensures) (c .if1 .left)
+returns-2 c = past-table (c .if2 .taken)
+
+returns-3 : tie.Need-returns-3
+returns-3 c = tenths-low (c .before .rank .ensures) (c .if3 .taken)
+
+returns-4 : tie.Need-returns-4
+returns-4 c = tenths-high (c .before .rank .ensures) (c .if3 .left)
 
 pub reading-spec : {M : Type 1} → statement M
-reading-spec = tie.close (tie.spec rank-requires mul-result add-result returns returns-2)
+reading-spec = tie.close (tie.spec returns returns-2 rank-requires mul-result add-result returns-3 returns-4)
