@@ -1,7 +1,8 @@
 -- ln at a point: from k ln 2 and the series to the N-th ends of the theory, on both sides of 1. Assumes nothing.
-use mathlib.Core.Path.{_≡_, refl, ap, sym, _∙_}
+use mathlib.Core.Path.{_≡_, refl, ap, sym, subst, _∙_}
 use Prim.Native.Nat.{ℕ, zero, suc, _+_, _-_, _*_, _/_, _^_, _≤_, _<_}
-use native.Mathlib.Nat.{mul-le-mul, mul-le-mul-right, mul-le-mul-left, le-of-mul-le-mul-right}
+use native.Mathlib.Nat.{add-comm, mul-le-mul, mul-le-mul-right, mul-le-mul-left, le-of-mul-le-mul-right}
+use native.Mathlib.Decide.{decLe}
 use native.Mathlib.Omega.{arith}
 use Rattle.exact.specs.Fraction.{Ratio, _≼_, Above0, whole, _⊕_, _⊗_, _⊖_, recip, _⊑_, Positive, ofRatio, neg, magnitude, oneF}
 use Rattle.exact.specs.laws.Ratio.{_≈_, ≼-refl, ≼-trans, to≼, from≼, ⊕-mono, above-mono}
@@ -15,9 +16,9 @@ use Rattle.span.specs.Spans.{unit, unit-positive, units}
 use Rattle.span.specs.Unary.{LnWithin}
 use Rattle.span.specs.Powers.{powers}
 use Rattle.fixed.specs.Logs.{fixed}
-use Rattle.enclosure.specs.LogSteps.{ratio, Series, Octaves, biased, biasedPair, Point, LnPoint}
+use Rattle.enclosure.specs.LogSteps.{ratio, Series, OctavesOf, Octaves, Sided, biased, biasedPair, Point, LnPoint}
 use Rattle.enclosure.proofs.OddSeries.{lower-to, upper-to, more}
-use Rattle.enclosure.proofs.Octave.{Ln2, ln-low, ln-high, ln2-low, ln2-high, times-low, times-high}
+use Rattle.enclosure.proofs.Octave.{Ln2, ln-low, ln-high, one-high, none-low, ln2-low, ln2-high, times-low, times-high}
 
 -- the two summands
 pub octaves-of : (C k a b s : ℕ) → k ≤ 1023 → C ≤ 3121657384082680 → Ln2 C → Series a b s → Octaves k a b (k * C / 2 ^ 22 + s)
@@ -117,25 +118,68 @@ split-below : (v m k : ℕ) (g : Above0 (magnitude (units v))) → unit * m ≡ 
 unfolding recip magnitude units
 split-below v m k g e = let s : v - 0 ≡ v = omega arith in rw s e
 
-not-one : (v m k : ℕ) → m < 2 ^ k * 2 ^ 31 → unit * m ≡ 2 ^ k * 2 ^ 31 * v → oneF ⊑ units v → ⊥
-unfolding oneF ofRatio whole units
-not-one v m k l e i =
-    let s : unit ≤ v = omega (arith, i .cross) in
-    omega (arith, e, unit-positive, mul-le-mul-right unit l, mul-le-mul-left (2 ^ k * 2 ^ 31) s)
+suc-pow : (m : ℕ) → suc m ≤ 2 ^ m
+suc-pow zero = omega arith
+suc-pow (suc m) = omega (arith, suc-pow m)
 
-pub below-one : (v m k r h : ℕ) → 2 ^ 30 ≤ m → m ≤ 2 ^ 31 → m < 2 ^ k * 2 ^ 31 → unit * m ≡ 2 ^ k * 2 ^ 31 * v → h + (r + 15) ≡ 2 ^ 40
+-- at 1 itself nothing is left: no octave, and u = 0
+module _ (v m k : ℕ) (u : m ≤ 2 ^ 31) (e : unit * m ≡ 2 ^ k * 2 ^ 31 * v) (i : oneF ⊑ units v) where
+  v-least : unit ≤ v
+  unfolding oneF ofRatio whole units
+  v-least = omega (arith, i .cross)
+
+  m-least : 2 ^ k * 2 ^ 31 ≤ m
+  m-least = le-of-mul-le-mul-right {k = unit} (omega (arith, e, mul-le-mul-left (2 ^ k * 2 ^ 31) v-least)) unit-positive
+
+  no-octave : k ≡ 0
+  no-octave = omega (arith, m-least, suc-pow k)
+
+  no-rest : 2 ^ 31 - m ≡ 0
+  no-rest = omega (arith, m-least, two-pow-pos k)
+
+  v-most : v ≤ unit
+  v-most = le-of-mul-le-mul-right {k = 2 ^ 31} (omega (arith, e, m-least, two-pow-pos k, mul-le-mul-right unit u, mul-le-mul-right (2 ^ 31 * v) (two-pow-pos k))) (omega arith)
+
+  not-above : magnitude (units v) ≼ whole 1
+  unfolding magnitude units whole
+  not-above = record { cross = omega (arith, v-most) }
+
+nothing-here : (b : ℕ) (z : 0 < b) → ratio 0 b z ≼ whole 0
+unfolding ratio whole
+nothing-here b z = record { cross = omega arith }
+
+nothing-low : {r : ℕ} → Lower (2 ^ 30) r (whole 0) → r ≡ 0
+unfolding whole
+nothing-low h = omega (arith, h .bound)
+
+nothing-left : {k a b r : ℕ} → 0 < b → k ≡ 0 → a ≡ 0 → Octaves k a b r → r ≡ 0
+nothing-left {k} {a} {b} {r} z e f d =
+    let o : Octaves 0 0 b r = subst (λ (i : ℕ). Octaves 0 i b r) f (subst (λ (i : ℕ). Octaves i a b r) e d) in
+    nothing-low (lower-to (none-low _ (nothing-here b z) 20) (o .below z 20 (omega arith)))
+
+lower-none : (r h : ℕ) (x : Ratio) → h + (r + 15) ≡ 2 ^ 40 → biased h ⊑ ofRatio x
+unfolding biased fixed ofRatio
+lower-none r h x e = let l : h ≤ 2 ^ 40 = omega arith in record { cross = omega (arith, mul-le-mul-right (x .den) l) }
+
+upper-none : (r h : ℕ) {x : Ratio} → h + (r + 15) ≡ 2 ^ 40 → r ≡ 0 → x ≼ whole 0 → ofRatio x ⊑ biased (h + 15)
+unfolding biased fixed ofRatio whole
+upper-none r h {x} e q l = let s : h + 15 ≡ 2 ^ 40 = omega arith in rw s (record { cross = omega (arith, l .cross) })
+
+pub below-one : (v m k r h : ℕ) → 2 ^ 30 ≤ m → m ≤ 2 ^ 31 → unit * m ≡ 2 ^ k * 2 ^ 31 * v → h + (r + 15) ≡ 2 ^ 40
     → Octaves k (2 ^ 31 - m) (2 ^ 31 + m) r → (z : Positive (units v)) (n : ℕ) → 20 ≤ n → LnWithin (units v) z n (biasedPair h (h + 15))
 unfolding lnLowerAt lnUpperAt lnLowerBy lnUpperBy biasedPair
-below-one v m k r h l u s e q d z n b = record { above = low (decF oneF (units v)); below = high (decF oneF (units v)) }
+below-one v m k r h l u e q d z n b = record { above = low (decF oneF (units v)); below = high (decF oneF (units v)) }
   where
     low : (c : Dec (oneF ⊑ units v)) → biased h ⊑ lnLowerBy (units v) z c n
-    low (yes i) = absurd (not-one v m k s e i)
+    low (yes i) = lower-none r h _ q
     low (no i) =
         let o = one-recip (units v) (magnitude-above (units v) z) i in
         lower-negated r h q (point-high _ (2 ^ 31) m k r (omega arith) u (omega arith) o (split-below v m k _ e) d o n b)
 
     high : (c : Dec (oneF ⊑ units v)) → lnUpperBy (units v) z c n ⊑ biased (h + 15)
-    high (yes i) = absurd (not-one v m k s e i)
+    high (yes i) =
+        let none : r ≡ 0 = nothing-left (omega arith) (no-octave v m k u e i) (no-rest v m k u e i) d in
+        upper-none r h q none (one-high _ (not-above v m k u e i) (one-magnitude i) n)
     high (no i) =
         let o = one-recip (units v) (magnitude-above (units v) z) i in
         upper-negated r h q (point-low _ (2 ^ 31) m k r (omega arith) u (omega arith) o (split-below v m k _ e) d n b)
@@ -156,25 +200,43 @@ ln-above m e r p l d =
     let s : m * 2 ^ e * 2 ^ 30 ≡ 2 ^ k * m * unit = omega (arith, ap (λ (i : ℕ). m * i) (unit-above k e (omega arith))) in
     record { ends = above-one (m * 2 ^ e) m k r (p .least) (p .most) s d; least = λ j q. omega (arith, d .small); most = λ j q. omega (arith, d .small) }
 
--- the number 1 itself, as 2^31·2^993
-pub ln-one : (m e r : ℕ) → Point m e → e < 994 → 993 - e + 2 ^ 31 ≡ m → Octaves 0 0 (2 ^ 31) r → LnPoint m e (2 ^ 40 + r)
-ln-one m e r p l q d =
-    let f : 0 + e ≡ 993 = omega (arith, p .most) in
-    let g : m ≡ 2 ^ 31 = omega (arith, p .most) in
-    let s : m * 2 ^ e * 2 ^ 30 ≡ 2 ^ 0 * 2 ^ 30 * unit = omega (arith, ap (λ (i : ℕ). i * 2 ^ e) g, unit-below 0 e f) in
-    record { ends = above-one (m * 2 ^ e) (2 ^ 30) 0 r (omega arith) (omega arith) s d; least = λ j q. omega (arith, d .small); most = λ j q. omega (arith, d .small) }
-
-suc-pow : (m : ℕ) → suc m ≤ 2 ^ m
-suc-pow zero = omega arith
-suc-pow (suc m) = omega (arith, suc-pow m)
-
-pub ln-below-one : (m e r : ℕ) → Point m e → e < 994 → (993 - e + 2 ^ 31 ≡ m → ⊥) → Octaves (993 - e) (2 ^ 31 - m) (2 ^ 31 + m) r → LnPoint m e (2 ^ 40 - (r + 15))
-ln-below-one m e r p l q d =
+pub ln-below : (m e r : ℕ) → Point m e → e < 994 → Octaves (993 - e) (2 ^ 31 - m) (2 ^ 31 + m) r → LnPoint m e (2 ^ 40 - (r + 15))
+ln-below m e r p l d =
     let k = 993 - e in
     let s : unit * m ≡ 2 ^ k * 2 ^ 31 * (m * 2 ^ e) = omega (arith, ap (λ (i : ℕ). i * m) (unit-below k e (omega arith))) in
-    let w : m < 2 ^ k * 2 ^ 31 = omega (arith, suc-pow k, p .most, q) in
     record {
-      ends = below-one (m * 2 ^ e) m k r (2 ^ 40 - (r + 15)) (p .least) (p .most) w s (omega (arith, d .small)) d;
+      ends = below-one (m * 2 ^ e) m k r (2 ^ 40 - (r + 15)) (p .least) (p .most) s (omega (arith, d .small)) d;
       least = λ j q. omega (arith, d .small);
       most = λ j q. omega (arith, d .small);
     }
+
+-- Both sides in one
+
+pub side-most : {e f : ℕ} → Sided e (2 ^ 30) (2 ^ 31) f → f ≤ 2 ^ 31
+side-most {e} {f} u = go (decLe 994 e)
+  where
+    go : Dec (994 ≤ e) → f ≤ 2 ^ 31
+    go (yes l) = omega (arith, u .above l)
+    go (no l) = omega (arith, u .below (omega arith))
+
+module _ {m e k a f : ℕ} (p : Point m e) (s : Sided e (e - 994) (993 - e) k) (t : Sided e (m - 2 ^ 30) (2 ^ 31 - m) a) (u : Sided e (2 ^ 30) (2 ^ 31) f) where
+  pub sides-fit : OctavesOf k a (f + m)
+  sides-fit = go (decLe 994 e)
+    where
+      go : Dec (994 ≤ e) → OctavesOf k a (f + m)
+      go (yes l) = rw (s .above l, t .above l, u .above l) (record { series = record { some = omega arith; fits = omega (arith, p .most); third = omega (arith, p .least, p .most) }; most = omega (arith, p .exponent) })
+      go (no l) =
+          let g : e < 994 = omega arith in
+          rw (s .below g, t .below g, u .below g) (record { series = record { some = omega arith; fits = omega (arith, p .most); third = omega (arith, p .least, p .most) }; most = omega arith })
+
+  pub sides-small : {r : ℕ} → Octaves k a (f + m) r → r + 15 ≤ 2 ^ 40
+  sides-small d = omega (arith, d .small, sides-fit .most)
+
+  pub both-sides : {r h : ℕ} → Octaves k a (f + m) r → Sided e (2 ^ 40 + r) (2 ^ 40 - (r + 15)) h → LnPoint m e h
+  both-sides {r} {h} d v = go (decLe 994 e)
+    where
+      go : Dec (994 ≤ e) → LnPoint m e h
+      go (yes l) = rw (v .above l) (ln-above m e r p l (subst (λ (i : ℕ). Octaves (e - 994) (m - 2 ^ 30) i r) (add-comm (2 ^ 30) m) (rw (s .above l, t .above l, u .above l) at d)))
+      go (no l) =
+          let g : e < 994 = omega arith in
+          rw (v .below g) (ln-below m e r p g (rw (s .below g, t .below g, u .below g) at d))

@@ -6,11 +6,11 @@ use native.Mathlib.Nat.{mul-pos, mul-le-mul-right, mul-le-mul-left, le-of-mul-le
 use native.Mathlib.Decide.{decLe}
 use native.Mathlib.Omega.{arith}
 use Rattle.exact.specs.Fraction.{Ratio, _≼_, Above0, whole, _⊕_, _⊗_, _⊖_, recip, power}
-use Rattle.exact.specs.laws.Ratio.{_≈_, ≼-refl, ≼-trans, ⊕-mono, ⊗-mono}
+use Rattle.exact.specs.laws.Ratio.{_≈_, ≼-refl, ≼-trans, ⊕-mono, ⊗-mono, above-whole, nothing-times}
 use Rattle.exact.specs.Series.{oneOver, even, odd, odd-pos, lnTail, gap, seriesLower, seriesUpper, exponent, fraction, argument, third, two-pow-pos}
 use Rattle.exact.specs.laws.LnSeries.{series-lower-mono, series-upper-mono}
 use Rattle.exact.specs.laws.Ln.{exponent-low, exponent-high, argument-mono, argument-two, two-pow-times, whole-mono, ladder}
-use Rattle.exact.specs.laws.Divisors.{gap-third}
+use Rattle.exact.specs.laws.Divisors.{gap-third, gap-argument}
 use Rattle.exact.specs.Ends.{ln2Lower, ln2Upper, lnLower, lnUpper}
 use Rattle.exact.specs.laws.Octaves.{zero-terms, zero-zero, twice-zero}
 use Rattle.exact.specs.laws.Width.{ninth}
@@ -132,6 +132,27 @@ module _ (t f : Ratio) (k : ℕ) (o : whole 1 ≼ t) (l : whole 1 ≼ f) (h : f 
           ≼-trans
           (⊕-mono (⊗-mono (whole-mono (exponent t) (suc k) (omega arith)) (≼-refl _)) (upper-zero _ (≼-trans (argument-mono (next-one s)) argument-one) n _))
           (≼-trans (one-back k _) (⊕-mono (≼-refl _) (series-upper-mono (≼-trans third-two (argument-mono (next-two s))) n gap-third g)))
+
+-- ln 1 is 0
+
+one-two : whole 1 ≼ whole 2
+unfolding whole
+one-two = omega arith
+
+just-one : (t : Ratio) → whole 1 ≼ t → t ≼ whole 1 → t ≈ whole (2 ^ 0) ⊗ whole 1
+unfolding whole _⊗_
+just-one t o l = omega arith
+
+pub one-high : (t : Ratio) → t ≼ whole 1 → (o : whole 1 ≼ t) (n : ℕ) → lnUpper t o n ≼ whole 0
+one-high t l o n =
+    let g = gap-argument (whole 1) (above-whole 0) in
+    ≼-trans (ln-high t (whole 1) 0 o (≼-refl _) one-two (just-one t o l) o n g)
+    (≼-trans (⊕-mono (nothing-times _) (upper-zero _ argument-one n g)) zero-zero)
+
+pub none-low : (u : Ratio) → u ≼ whole 0 → (n : ℕ) → whole 0 ⊗ ln2Lower n ⊕ seriesLower u n ≼ whole 0
+unfolding seriesLower
+none-low u l n =
+    ≼-trans (⊕-mono (nothing-times _) (≼-trans (⊗-mono (≼-refl (whole 2)) (zero-terms l n)) twice-zero)) zero-zero
 
 -- ln 2 in 2^-52, C rounded downward: tested against 20 terms
 pub record Ln2 (C : ℕ) : Type 0 where

@@ -1,18 +1,18 @@
--- The loop of the odd series on plain numbers: after j turns, w is u^(2j+1) and s the sum of j terms, in S-ths and rounded downward; w lacks at most 2,
--- and s at most 2 for each term. Assumes nothing.
-use mathlib.Core.Path.{_≡_, sym, ap, subst, _∙_}
+-- The loop of the odd series on plain numbers: the terms from the j-th on, without their common u^(2j+1), are h in S-ths, rounded downward; h lacks at
+-- most 5. Assumes nothing.
+use mathlib.Core.Path.{_≡_, refl, sym, ap, subst, _∙_}
 use Prim.Native.Nat.{ℕ, zero, suc, _+_, _*_, _/_, _^_, _≤_, _<_}
 use native.Mathlib.Nat.{le-trans, le-of-eq, mul-le-mul, mul-mul-mul-comm, mul-assoc, mul-le-mul-right, le-of-mul-le-mul-right, div-mul-le-self, lt-div-mul-add, div-le-self, le-dest}
-use native.Mathlib.Numerals.{add-one}
 use native.Mathlib.Omega.{arith}
 use lib.Dec.{lit≤}
 use Rattle.exact.specs.Fraction.{Ratio, _≼_, Above0, whole, _⊕_, _⊗_, power, sum}
-use Rattle.exact.specs.laws.Ratio.{≼-refl, ≼-trans, ⊕-mono, ⊕-assoc, to≼, ⊗-mono}
+use Rattle.exact.specs.laws.Ratio.{_≈_, ≼-refl, ≼-trans, ⊕-mono, ⊕-assoc, to≼, from≼, ⊗-mono}
+use Rattle.exact.specs.laws.Equal.{≈-refl, ≈-trans, ⊕-cong}
 use Rattle.exact.specs.laws.Sums.{after, after-is, sum-grows}
 use Rattle.exact.specs.Series.{oneOver, even, odd, odd-pos, lnTerm, gap, seriesLower, seriesUpper, third}
 use Rattle.exact.specs.laws.LnSeries.{even-is, series-lower-upper}
 use Rattle.exact.specs.laws.Width.{ninth, series-width}
-use Rattle.exact.specs.laws.Fixed.{Lower, Upper, lower-sum, upper-sum, lower-product, upper-product, lower-over}
+use Rattle.exact.specs.laws.Fixed.{Lower, Upper, lower-sum, upper-sum, lower-product, upper-product}
 use Rattle.enclosure.specs.LogSteps.{ratio, Third, Series}
 
 -- Bounds in S-ths
@@ -31,69 +31,85 @@ fewer {x = x} h l = record { bound = omega (arith, l .bound, mul-le-mul-right (x
 pub more : {S a b : ℕ} {x : Ratio} → a ≤ b → Upper S a x → Upper S b x
 more {x = x} h l = record { bound = omega (arith, l .bound, mul-le-mul-right (x .den) h) }
 
--- x/n, where g is the quotient rounded downward: w + 2 is at most (g + 2) n
-over : {S : ℕ} (w g : ℕ) {x : Ratio} (n : ℕ) (z : 0 < n) → w + 2 ≤ (g + 2) * n → Upper S (w + 2) x → Upper S (g + 2) (x ⊗ oneOver n z)
-unfolding oneOver _⊗_
-over w g {x} n z h l = record { bound = omega (arith, l .bound, mul-le-mul-right (x .den) h) }
-
 abbrev pub S : ℕ
 S = 2 ^ 32
 
--- a product of two that lack at most 2
-product-next : (w v : ℕ) {x y : Ratio} → 3 * w ≤ S → 9 * v ≤ S → Upper S (w + 2) x → Upper S (v + 2) y → Upper S (v * w / S + 2) (y ⊗ x)
-product-next w v h k l m =
-    let e : (v + 2) * (w + 2) ≡ v * w + 2 * v + 2 * w + 4 = omega arith in
-    let d : suc ((v + 2) * (w + 2) / S) ≤ v * w / S + 2 = omega arith in
-    more d (upper-product (omega arith) m l)
+-- 1/(2j + 1) + u²(1/(2j + 3) + u²(..)), n terms
 
-square-lower : {T a : ℕ} (u x : Ratio) → Lower T a (u ⊗ u ⊗ x) → Lower T a (u ⊗ (u ⊗ x))
-unfolding _⊗_
-square-lower u x h = omega arith
+unfoldable pub nested : Ratio → ℕ → ℕ → Ratio
+nested u j zero = whole 0
+nested u j (suc n) = oneOver (odd j) (odd-pos j) ⊕ u ⊗ u ⊗ nested u (suc j) n
 
-square-upper : {T a : ℕ} (u x : Ratio) → Upper T a (u ⊗ u ⊗ x) → Upper T a (u ⊗ (u ⊗ x))
-unfolding _⊗_
-square-upper u x h = omega arith
+no-more : (s p : Ratio) → s ≈ s ⊕ p ⊗ whole 0
+unfolding whole _⊕_ _⊗_
+no-more s p = omega arith
 
-unit-lower : {T a : ℕ} (u : Ratio) → Lower T a u → Lower T a (u ⊗ whole 1)
-unfolding whole _⊗_
-unit-lower u h = omega arith
+regroup : (p o t u : Ratio) → p ⊗ o ⊕ (u ⊗ (u ⊗ p)) ⊗ t ≈ p ⊗ (o ⊕ u ⊗ u ⊗ t)
+unfolding _⊕_ _⊗_
+regroup p o t u = omega arith
 
-unit-upper : {T a : ℕ} (u : Ratio) → Upper T a u → Upper T a (u ⊗ whole 1)
-unfolding whole _⊗_
-unit-upper u h = omega arith
+after-suc : (j n : ℕ) → after (suc j) n ≡ suc (after j n)
+after-suc j zero = refl
+after-suc j (suc n) = ap suc (after-suc j n)
+
+-- the n terms from the j-th on
+from-on : (u : Ratio) (j n : ℕ) → sum (lnTerm u) (after j n) ≈ sum (lnTerm u) j ⊕ power u (odd j) ⊗ nested u j n
+unfolding nested sum lnTerm even power
+from-on u j zero = no-more _ _
+from-on u j (suc n) =
+    ≈-trans
+    (subst (λ (i : ℕ). sum (lnTerm u) i ≈ sum (lnTerm u) (suc j) ⊕ power u (odd (suc j)) ⊗ nested u (suc j) n) (after-suc j n) (from-on u (suc j) n))
+    (≈-trans (⊕-assoc _ _ _) (⊕-cong (≈-refl _) (regroup (power u (odd j)) _ _ u)))
+
+nothing-more : (u x : Ratio) → whole 0 ⊕ u ⊗ whole 1 ⊗ x ≈ u ⊗ x
+unfolding whole _⊕_ _⊗_
+nothing-more u x = omega arith
+
+nine-terms : (u : Ratio) → sum (lnTerm u) 9 ≈ u ⊗ nested u 0 9
+unfolding sum even power
+nine-terms u = ≈-trans (from-on u 0 9) (nothing-more u (nested u 0 9))
 
 nothing-lower : {T : ℕ} → Lower T 0 (whole 0)
 unfolding whole
 nothing-lower = omega arith
 
-nothing-upper : {T : ℕ} → Upper T 0 (whole 0)
+nothing-upper : {T : ℕ} → Upper T 5 (whole 0)
 unfolding whole
 nothing-upper = omega arith
 
-pub record Inv (u : Ratio) (v w s j : ℕ) : Type 0 where
+-- S/n
+over-lower : (n : ℕ) (z : 0 < n) → Lower S (S / n) (oneOver n z)
+unfolding oneOver
+over-lower n z = record { bound = omega (arith, div-mul-le-self S n) }
+
+over-upper : (n : ℕ) (z : 0 < n) → Upper S (S / n + 1) (oneOver n z)
+unfolding oneOver
+over-upper n z = record { bound = omega (arith, lt-div-mul-add {a = S} z) }
+
+pub record Inv (u : Ratio) (w v h j : ℕ) : Type 0 where
   pub within : j ≤ 9
-  pub v-fits : 9 * v ≤ S
   pub w-fits : 3 * w ≤ S
-  pub s-fits : 8 * s + 9 * w ≤ 3 * S
+  pub v-fits : 9 * v ≤ S
+  pub h-fits : 8 * h ≤ 9 * S
+  pub u-low : Lower S w u
+  pub u-high : Upper S (w + 1) u
   pub square-low : Lower S v (u ⊗ u)
   pub square-high : Upper S (v + 2) (u ⊗ u)
-  pub term-low : Lower S w (power u (odd j))
-  pub term-high : Upper S (w + 2) (power u (odd j))
-  pub sum-low : Lower S s (sum (lnTerm u) j)
-  pub sum-high : Upper S (s + 2 * j) (sum (lnTerm u) j)
+  pub low : (n : ℕ) → n + j ≡ 9 → Lower S h (nested u j n)
+  pub high : (n : ℕ) → n + j ≡ 9 → Upper S (h + 5) (nested u j n)
 
 -- before the loop: u and its square
 module _ (a b : ℕ) (t : Third a b) (z : 0 < b) where
   abbrev U : ℕ
   U = a * S / b
 
-  u-low : Lower S U (ratio a b z)
+  at-low : Lower S U (ratio a b z)
   unfolding ratio
-  u-low = record { bound = div-mul-le-self (a * S) b }
+  at-low = record { bound = div-mul-le-self (a * S) b }
 
-  u-high : Upper S (U + 1) (ratio a b z)
+  at-high : Upper S (U + 1) (ratio a b z)
   unfolding ratio
-  u-high = let high = lt-div-mul-add {a = a * S} {b = b} z in record { bound = omega arith }
+  at-high = let high = lt-div-mul-add {a = a * S} {b = b} z in record { bound = omega arith }
 
   pub u-small : 3 * U ≤ S
   u-small =
@@ -108,48 +124,84 @@ module _ (a b : ℕ) (t : Third a b) (z : 0 < b) where
   v-high =
       let e : (U + 1) * (U + 1) ≡ U * U + 2 * U + 1 = omega arith in
       let d : suc ((U + 1) * (U + 1) / S) ≤ U * U / S + 2 = omega (arith, u-small) in
-      more d (upper-product (omega arith) u-high u-high)
+      more d (upper-product (omega arith) at-high at-high)
 
-  pub first : Inv (ratio a b z) (U * U / S) U 0 0
-  unfolding even power sum
+  none : (n : ℕ) → n + 9 ≡ 9 → n ≡ 0
+  none n e = omega arith
+
+  pub first : Inv (ratio a b z) U (U * U / S) 0 9
+  unfolding nested
   first =
       record {
         within = omega arith;
-        v-fits = omega (arith, squares);
         w-fits = u-small;
-        s-fits = omega (arith, u-small);
-        square-low = lower-product (omega arith) u-low u-low;
+        v-fits = omega (arith, squares);
+        h-fits = omega arith;
+        u-low = at-low;
+        u-high = at-high;
+        square-low = lower-product (omega arith) at-low at-low;
         square-high = v-high;
-        term-low = unit-lower _ u-low;
-        term-high = unit-upper _ (more (omega arith) u-high);
-        sum-low = nothing-lower;
-        sum-high = nothing-upper;
+        low = λ n e. rw (none n e) nothing-lower;
+        high = λ n e. rw (none n e) nothing-upper;
       }
 
--- one turn
-pub again : (u : Ratio) (v w s j : ℕ) → Inv u v w s j → j < 9 → Inv u v (v * w / S) (s + w / (2 * j + 1)) (j + 1)
-unfolding even power sum lnTerm
-again u v w s j i h =
-    let g = w / (2 * j + 1) in
-    let e : odd j ≡ 2 * j + 1 = omega (arith, even-is j) in
-    let low : g * (2 * j + 1) ≤ w = div-mul-le-self w (2 * j + 1) in
-    let high : w < g * (2 * j + 1) + (2 * j + 1) = lt-div-mul-add (omega arith) in
-    let least : g ≤ w = div-le-self w (2 * j + 1) in
-    let less : 9 * v * w ≤ S * w = mul-le-mul-right w (i .v-fits) in
-    let room : w + 2 ≤ (g + 2) * odd j = omega (arith, ap (λ (k : ℕ). (g + 2) * k) e) in
-    rw (add-one j)
+-- a product of the square with what is nested: h lacks at most 5, and the product at most 4
+pub product-small : (v h : ℕ) → 9 * v ≤ S → 8 * h ≤ 9 * S → 8 * (v * h) ≤ S * S
+product-small v h k l = omega (arith, mul-le-mul k l)
+
+product-high : (v h : ℕ) {x y : Ratio} → 9 * v ≤ S → 8 * h ≤ 9 * S → Upper S (v + 2) x → Upper S (h + 5) y → Upper S (v * h / S + 4) (x ⊗ y)
+product-high v h k l m n =
+    let e : (v + 2) * (h + 5) ≡ v * h + 5 * v + 2 * h + 10 = omega arith in
+    let d : suc ((v + 2) * (h + 5) / S) ≤ v * h / S + 4 = omega arith in
+    more d (upper-product (omega arith) m n)
+
+-- one turn, from j to i = j - 1
+pub again : (u : Ratio) (w v h j i : ℕ) → Inv u w v h j → j ≡ suc i → Inv u w v (v * h / S + S / (2 * i + 1)) i
+unfolding nested
+again u w v h j i s q =
     record {
-      within = omega arith;
-      v-fits = i .v-fits;
-      w-fits = omega (arith, i .w-fits);
-      s-fits = omega (arith, i .w-fits, i .s-fits);
-      square-low = i .square-low;
-      square-high = i .square-high;
-      term-low = square-lower u _ (lower-product (omega arith) (i .square-low) (i .term-low));
-      term-high = square-upper u _ (product-next w v (i .w-fits) (i .v-fits) (i .term-high) (i .square-high));
-      sum-low = lower-sum (i .sum-low) (fewer (le-of-eq (ap (λ (k : ℕ). w / k) (sym e))) (lower-over (odd j) (odd-pos j) (i .term-low)));
-      sum-high = more (omega arith) (upper-sum (i .sum-high) (over w g (odd j) (odd-pos j) room (i .term-high)));
+      within = omega (arith, s .within);
+      w-fits = s .w-fits;
+      v-fits = s .v-fits;
+      h-fits = omega (arith, product-small v h (s .v-fits) (s .h-fits), div-le-self S (2 * i + 1));
+      u-low = s .u-low;
+      u-high = s .u-high;
+      square-low = s .square-low;
+      square-high = s .square-high;
+      low = λ n e. low n e;
+      high = λ n e. high n e;
     }
+  where
+    o : odd i ≡ 2 * i + 1
+    o = omega (arith, even-is i)
+
+    low : (n : ℕ) → n + i ≡ 9 → Lower S (v * h / S + S / (2 * i + 1)) (nested u i n)
+    low zero e = absurd (omega (arith, s .within))
+    low (suc n) e =
+        let k : n + j ≡ 9 = omega arith in
+        let inner : Lower S h (nested u (suc i) n) = rw q at (s .low n k) in
+        fewer (omega (arith, ap (λ (d : ℕ). S / d) o)) (lower-sum (over-lower (odd i) (odd-pos i)) (lower-product (omega arith) (s .square-low) inner))
+
+    high : (n : ℕ) → n + i ≡ 9 → Upper S (v * h / S + S / (2 * i + 1) + 5) (nested u i n)
+    high zero e = absurd (omega (arith, s .within))
+    high (suc n) e =
+        let k : n + j ≡ 9 = omega arith in
+        let inner : Upper S (h + 5) (nested u (suc i) n) = rw q at (s .high n k) in
+        more (omega (arith, ap (λ (d : ℕ). S / d) o))
+        (upper-sum (over-upper (odd i) (odd-pos i)) (product-high v h (s .v-fits) (s .h-fits) (s .square-high) inner))
+
+-- u times what is nested from the first term on
+pub last-small : (w h : ℕ) → 3 * w ≤ S → 8 * h ≤ 9 * S → 8 * (w * h) ≤ 3 * S * S
+last-small w h k l = omega (arith, mul-le-mul k l)
+
+sum-low : {u : Ratio} {w v h : ℕ} → Inv u w v h 0 → Lower S (w * h / S) (sum (lnTerm u) 9)
+sum-low {u} i = lower-to (from≼ (nine-terms u)) (lower-product (omega arith) (i .u-low) (i .low 9 (omega arith)))
+
+sum-high : {u : Ratio} {w v h : ℕ} → Inv u w v h 0 → Upper S (w * h / S + 4) (sum (lnTerm u) 9)
+sum-high {u} {w} {v} {h} i =
+    let e : (w + 1) * (h + 5) ≡ w * h + 5 * w + h + 5 = omega arith in
+    let d : suc ((w + 1) * (h + 5) / S) ≤ w * h / S + 4 = omega (arith, i .w-fits, i .h-fits) in
+    upper-to (to≼ (nine-terms u)) (more d (upper-product (omega arith) (i .u-high) (i .high 9 (omega arith))))
 
 -- after the loop: twice the sum, in 2^-30; beyond nine terms lie at most 1/9^9
 
@@ -159,10 +211,10 @@ scale-low s x h =
     let d : s / 2 * 2 ≤ s = div-mul-le-self s 2 in
     record { bound = omega (arith, h .bound, mul-le-mul-right (x .den) d) }
 
-scale-high : (s : ℕ) (x : Ratio) → Upper S (s + 18) x → Upper (2 ^ 30) (s / 2 + 10) (whole 2 ⊗ x)
+scale-high : (s : ℕ) (x : Ratio) → Upper S (s + 4) x → Upper (2 ^ 30) (s / 2 + 3) (whole 2 ⊗ x)
 unfolding whole _⊗_
 scale-high s x h =
-    let d : s + 18 ≤ (s / 2 + 10) * 2 = omega arith in
+    let d : s + 4 ≤ (s / 2 + 3) * 2 = omega arith in
     record { bound = omega (arith, h .bound, mul-le-mul-right (x .den) d) }
 
 pub lower-grows : (u : Ratio) (m n : ℕ) → m ≤ n → seriesLower u m ≼ seriesLower u n
@@ -203,31 +255,31 @@ below-third : (a b : ℕ) (t : Third a b) (z : 0 < b) → ratio a b z ≼ third
 unfolding ratio third oneOver
 below-third a b t z = record { cross = omega (arith, t .third) }
 
-last : (a b v w s : ℕ) (t : Third a b) → ((z : 0 < b) → Inv (ratio a b z) v w s 9) → Series a b (s / 2)
+last : (a b w v h : ℕ) (t : Third a b) → ((z : 0 < b) → Inv (ratio a b z) w v h 0) → Series a b (w * h / S / 2)
 unfolding seriesLower
-last a b v w s t i =
+last a b w v h t i =
     record {
-      below = λ z n h. low z n h;
-      above = λ z n h g. high z n h g;
-      small = omega (arith, i (t .some) .s-fits);
+      below = λ z n k. low z n k;
+      above = λ z n k g. high z n k g;
+      small = omega (arith, last-small w h (i (t .some) .w-fits) (i (t .some) .h-fits));
     }
   where
-    low : (z : 0 < b) (n : ℕ) → 20 ≤ n → Lower (2 ^ 30) (s / 2) (seriesLower (ratio a b z) n)
-    low z n h = lower-to (lower-grows (ratio a b z) 9 n (omega arith)) (scale-low s _ (i z .sum-low))
+    low : (z : 0 < b) (n : ℕ) → 20 ≤ n → Lower (2 ^ 30) (w * h / S / 2) (seriesLower (ratio a b z) n)
+    low z n k = lower-to (lower-grows (ratio a b z) 9 n (omega arith)) (scale-low _ _ (sum-low (i z)))
 
-    high : (z : 0 < b) (n : ℕ) → 20 ≤ n → (g : Above0 (gap (ratio a b z))) → Upper (2 ^ 30) (s / 2 + 13) (seriesUpper (ratio a b z) n g)
-    high z n h g =
+    high : (z : 0 < b) (n : ℕ) → 20 ≤ n → (g : Above0 (gap (ratio a b z))) → Upper (2 ^ 30) (w * h / S / 2 + 13) (seriesUpper (ratio a b z) n g)
+    high z n k g =
         upper-to
-        (≼-trans (upper-near (ratio a b z) (below-third a b t z) g 9 n (omega arith)) (≼-trans (⊕-mono (≼-refl _) (ninth-from 20 n h)) (assoc _ _ _)))
-        (more (omega arith) (upper-sum (scale-high s _ (i z .sum-high)) ninths))
+        (≼-trans (upper-near (ratio a b z) (below-third a b t z) g 9 n (omega arith)) (≼-trans (⊕-mono (≼-refl _) (ninth-from 20 n k)) (assoc _ _ _)))
+        (more (omega arith) (upper-sum (scale-high _ _ (sum-high (i z))) ninths))
 
 -- what holds at the head of the loop
-pub record At (a b v w s j : ℕ) : Type 0 where
+pub record At (a b w v h j : ℕ) : Type 0 where
   pub third : Third a b
-  pub inv : (z : 0 < b) → Inv (ratio a b z) v w s j
+  pub inv : (z : 0 < b) → Inv (ratio a b z) w v h j
 
-pub now : {a b v w s j : ℕ} (i : At a b v w s j) → Inv (ratio a b (i .third .some)) v w s j
+pub now : {a b w v h j : ℕ} (i : At a b w v h j) → Inv (ratio a b (i .third .some)) w v h j
 now i = i .inv (i .third .some)
 
-pub finish : {a b v w s j : ℕ} → At a b v w s j → j ≡ 9 → Series a b (s / 2)
-finish {a} {b} {v} {w} {s} i e = last a b v w s (i .third) λ z. subst (λ (k : ℕ). Inv (ratio a b z) v w s k) e (i .inv z)
+pub finish : {a b w v h j : ℕ} → At a b w v h j → j ≡ 0 → Series a b (w * h / S / 2)
+finish {a} {b} {w} {v} {h} i e = last a b w v h (i .third) λ z. subst (λ (k : ℕ). Inv (ratio a b z) w v h k) e (i .inv z)

@@ -1,21 +1,18 @@
 -- `enclosure::logarithm::odd_series` meets its contract. Assumes nothing.
 use mathlib.Core.Path.{_≡_}
-use Prim.Native.Nat.{ℕ, _+_, _-_, _*_, _^_, _≤_}
-use native.Mathlib.Nat.{mul-le-mul, div-le-self}
+use Prim.Native.Nat.{ℕ, suc, _+_, _-_, _*_}
+use native.Mathlib.Nat.{div-le-self}
 use native.Mathlib.Omega.{arith}
 use borrow.Author.Needs.{needs}
-use Rattle.enclosure.proofs.OddSeries.{S, At, now, squares, first, again, finish}
+use Rattle.enclosure.proofs.OddSeries.{S, At, now, squares, product-small, last-small, first, again, finish}
 use Rattle.enclosure.proofs.logarithm.odd_series.Statement.{statement}
 use Rattle.enclosure.proofs.logarithm.odd_series.Tie as tie
 
-product-small : (v w : ℕ) → 9 * v ≤ S → 3 * w ≤ S → v * w ≤ 2 ^ 62
-product-small v w h g = mul-le-mul {n₁ = v} {m₁ = w} {n₂ = 2 ^ 31} {m₂ = 2 ^ 31} (omega arith) (omega arith)
-
 abbrev Inv-loop : tie.InvT-loop
-Inv-loop a b w₀ v s₀ j₀ w s j = At a b v w s j
+Inv-loop a b w v h₀ j₀ h j = At a b w v h j
 
 abbrev μ-loop : tie.MeasureT-loop
-μ-loop a b w₀ v s₀ j₀ w s j = 9 - j
+μ-loop a b w v h₀ j₀ h j = j
 
 mul-w : tie.Need-mul-w Inv-loop μ-loop
 mul-w c = search needs
@@ -29,39 +26,46 @@ mul-v c = omega (arith, squares (c .args .a) (c .args .b) (search needs) (search
 loop-holds : tie.Need-loop-holds Inv-loop μ-loop
 loop-holds c = record { third = search needs; inv = λ z. first (c .args .a) (c .args .b) (search needs) z }
 
-mul-s : tie.Need-mul-s Inv-loop μ-loop
-mul-s c = omega (arith, now (c .before .loop .inv) .within)
+sub-j : tie.Need-sub-j Inv-loop μ-loop
+sub-j c = search needs
 
-add-s : tie.Need-add-s Inv-loop μ-loop
-add-s c = omega (arith, now (c .before .loop .inv) .within)
-
-div-s : tie.Need-div-s Inv-loop μ-loop
-div-s c = search needs
-
-add-s-2 : tie.Need-add-s-2 Inv-loop μ-loop
-add-s-2 c =
+mul-h : tie.Need-mul-h Inv-loop μ-loop
+mul-h c =
     let i = now (c .before .loop .inv) in
-    omega (arith, i .within, i .s-fits, i .w-fits, div-le-self (c .before .loop .w) (2 * c .before .loop .j + 1))
+    omega (arith, product-small _ _ (i .v-fits) (i .h-fits))
 
-mul-w-2 : tie.Need-mul-w-2 Inv-loop μ-loop
-mul-w-2 c =
+mul-h-2 : tie.Need-mul-h-2 Inv-loop μ-loop
+mul-h-2 c = omega (arith, now (c .before .loop .inv) .within)
+
+add-h : tie.Need-add-h Inv-loop μ-loop
+add-h c = omega (arith, now (c .before .loop .inv) .within)
+
+div-h : tie.Need-div-h Inv-loop μ-loop
+div-h c = search needs
+
+add-h-2 : tie.Need-add-h-2 Inv-loop μ-loop
+add-h-2 c =
     let i = now (c .before .loop .inv) in
-    omega (arith, product-small _ _ (i .v-fits) (i .w-fits))
-
-add-j : tie.Need-add-j Inv-loop μ-loop
-add-j c = omega (arith, now (c .before .loop .inv) .within)
+    omega (arith, product-small _ _ (i .v-fits) (i .h-fits), div-le-self S (2 * (c .before .loop .j - 1) + 1))
 
 loop-less : tie.Need-loop-less Inv-loop μ-loop
 loop-less c = search needs
 
 loop-again : tie.Need-loop-again Inv-loop μ-loop
-loop-again c = record { third = c .before .loop .inv .third; inv = λ z. again _ _ _ _ _ (c .before .loop .inv .inv z) (omega (arith, c .loop-test .taken)) }
+loop-again c =
+    let i = c .before .loop .inv in
+    let back : c .before .loop .j ≡ suc (c .before .loop .j - 1) = omega (arith, c .loop-test .taken) in
+    record { third = i .third; inv = λ z. again _ _ _ _ _ _ (i .inv z) back }
+
+mul-result : tie.Need-mul-result Inv-loop μ-loop
+mul-result c =
+    let i = now (c .before .loop .inv) in
+    omega (arith, last-small _ _ (i .w-fits) (i .h-fits))
 
 returns : tie.Need-returns Inv-loop μ-loop
 returns c =
-    let i = c .before .loop .inv in
-    let all : c .before .loop .j ≡ 9 = omega (arith, now i .within, c .loop-test .left) in
-    finish i all
+    let none : c .before .loop .j ≡ 0 = omega (arith, c .loop-test .left) in
+    finish (c .before .loop .inv) none
 
 pub odd-series-spec : {M : Type 1} → statement M
 odd-series-spec =
@@ -73,12 +77,13 @@ odd-series-spec =
     div-w
     mul-v
     loop-holds
-    mul-s
-    add-s
-    div-s
-    add-s-2
-    mul-w-2
-    add-j
+    sub-j
+    mul-h
+    mul-h-2
+    add-h
+    div-h
+    add-h-2
     loop-less
     loop-again
+    mul-result
     returns)

@@ -1,82 +1,63 @@
 -- `enclosure::logarithm::point` meets its contract. Assumes nothing.
+use native.Mathlib.Omega.{arith}
 use borrow.Author.Needs.{needs}
-use Rattle.enclosure.proofs.LnPoint.{ln-above, ln-one, ln-below-one}
+use Rattle.enclosure.proofs.LnPoint.{side-most, sides-fit, sides-small, both-sides}
 use Rattle.enclosure.proofs.logarithm.point.Statement.{statement}
 use Rattle.enclosure.proofs.logarithm.point.Tie as tie
 
-cast-k : tie.Need-cast-k
-cast-k c = search needs
+octave-of-requires : tie.Need-octave-of-requires
+octave-of-requires c κs = search needs
 
-sub-octaves : tie.Need-sub-octaves
-sub-octaves c = search needs
+sub-side : tie.Need-sub-side
+sub-side c = search needs
+
+sub-side-2 : tie.Need-sub-side-2
+sub-side-2 c = search needs
+
+side-requires : tie.Need-side-requires
+side-requires c κs = search needs
+
+side-requires-2 : tie.Need-side-requires-2
+side-requires-2 c κs = search needs
 
 add-octaves : tie.Need-add-octaves
-add-octaves c = search needs
+add-octaves c = omega (arith, side-most (c .side2 .ensures), c .before .before .before .pre .most)
 
 octaves-requires : tie.Need-octaves-requires
-octaves-requires c κs = search needs
+octaves-requires c κs = sides-fit (c .before .before .before .pre) (c .before .before .octave-of .ensures) (c .before .side .ensures) (c .side2 .ensures)
 
-add-result : tie.Need-add-result
-add-result c = search needs
+sub-side-3 : tie.Need-sub-side-3
+sub-side-3 c =
+    sides-small (c .before .before .before .before .pre) (c .before .before .before .octave-of .ensures) (c .before .before .side .ensures) (c .before .side2 .ensures) (c .octaves .ensures)
 
-sub-k : tie.Need-sub-k
-sub-k c = search needs
+add-side : tie.Need-add-side
+add-side c = omega (arith, sub-side-3 c)
 
-cast-k-2 : tie.Need-cast-k-2
-cast-k-2 c = search needs
+add-side-2 : tie.Need-add-side-2
+add-side-2 c = omega (arith, sub-side-3 c)
 
-add-if2 : tie.Need-add-if2
-add-if2 c = search needs
-
-octaves-requires-2 : tie.Need-octaves-requires-2
-octaves-requires-2 c κs = search needs
-
-add-result-2 : tie.Need-add-result-2
-add-result-2 c = search needs
-
-sub-octaves-2 : tie.Need-sub-octaves-2
-sub-octaves-2 c = search needs
-
-add-octaves-2 : tie.Need-add-octaves-2
-add-octaves-2 c = search needs
-
-octaves-requires-3 : tie.Need-octaves-requires-3
-octaves-requires-3 c κs = search needs
-
-add-result-3 : tie.Need-add-result-3
-add-result-3 c = search needs
-
-sub-result : tie.Need-sub-result
-sub-result c = search needs
+side-requires-3 : tie.Need-side-requires-3
+side-requires-3 c κs = search needs
 
 returns : tie.Need-returns
-returns c = ln-above _ _ _ (c .before .before .pre) (search needs) (c .octaves .ensures)
-
-returns-2 : tie.Need-returns-2
-returns-2 c = ln-one _ _ _ (c .before .before .before .pre) (search needs) (search needs) (c .octaves2 .ensures)
-
-returns-3 : tie.Need-returns-3
-returns-3 c = ln-below-one _ _ _ (c .before .before .before .pre) (search needs) (c .before .if2 .left) (c .octaves3 .ensures)
+returns c =
+    let s = c .before .before .before .before .before in
+    both-sides (s .pre) (c .before .before .before .before .octave-of .ensures) (c .before .before .before .side .ensures)
+    (c .before .before .side2 .ensures) (c .before .octaves .ensures) (c .side3 .ensures)
 
 pub point-spec : {M : Type 1} → statement M
 point-spec =
     tie.close
     (tie.spec
-    cast-k
-    sub-octaves
+    octave-of-requires
+    sub-side
+    sub-side-2
+    side-requires
+    side-requires-2
     add-octaves
     octaves-requires
-    add-result
-    sub-k
-    cast-k-2
-    add-if2
-    octaves-requires-2
-    add-result-2
-    sub-octaves-2
-    add-octaves-2
-    octaves-requires-3
-    add-result-3
-    sub-result
-    returns
-    returns-2
-    returns-3)
+    add-side
+    add-side-2
+    sub-side-3
+    side-requires-3
+    returns)
