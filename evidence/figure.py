@@ -13,7 +13,7 @@ import sys
 
 LINE = '110001%02X007A1200057803020000B540%08X0046'
 METRES = (408320000000 / 101300) ** (1 / 3)  # Rx is the distance over this length
-LEFT, TOP, WIDTH, HEIGHT = 70, 30, 640, 380
+LEFT, TOP, WIDTH, HEIGHT = 70, 44, 640, 380
 FIRST, LAST = 10, 10000  # m
 LOW, HIGH = 100, 10**7  # Pa
 
@@ -77,14 +77,15 @@ def steps():
     for rx, name in ((0.2, 'Rx 0.2, near field'), (0.34, 'Rx 0.34'), (24, 'Rx 24, far limit')):
         x = across(rx * METRES)
         parts.append(line(x, TOP, x, TOP + HEIGHT, 'stroke="#888" stroke-dasharray="4 4"'))
-        parts.append(text(x, TOP - 8 if rx != 0.34 else TOP - 20, name))
+        parts.append(text(x, TOP - 8 if rx != 0.34 else TOP - 24, name))
     return parts
 
 
-def curve(points, colour, name, below):
+def curve(points, colour, name, metres, pascals):
+    """The curve, and its name from the given place on, where nothing else is drawn."""
     shape = ' '.join('%.2f,%.2f' % (across(m), down(pa)) for m, pa in points)
     return ['<polyline points="%s" fill="none" stroke="%s" stroke-width="2"/>' % (shape, colour),
-            text(LEFT + 8, down(points[0][1]) + below, name, 'start', colour)]
+            text(across(metres), down(pascals), name, 'start', colour)]
 
 
 def main(words):
@@ -92,11 +93,11 @@ def main(words):
         print(__doc__)
         return 2
     reckon, file = words
-    parts = ['<svg xmlns="http://www.w3.org/2000/svg" width="740" height="460" viewBox="0 0 740 460" font-family="sans-serif" font-size="12">',
-             '<rect width="740" height="460" fill="white"/>']
+    parts = ['<svg xmlns="http://www.w3.org/2000/svg" width="740" height="474" viewBox="0 0 740 474" font-family="sans-serif" font-size="12">',
+             '<rect width="740" height="474" fill="white"/>']
     parts += axes() + steps()
-    parts += curve(pressures(reckon, 1), '#b03020', 'surroundings 1: detonation', -8)
-    parts += curve(pressures(reckon, 4), '#2050a0', 'surroundings 4: deflagration at 200 m/s', 32)
+    parts += curve(pressures(reckon, 1), '#b03020', 'surroundings 1: detonation', 110, 2e5)
+    parts += curve(pressures(reckon, 4), '#2050a0', 'surroundings 4: deflagration at 200 m/s', 60, 2.2e3)
     with open(file, 'w', encoding='utf-8') as out:
         out.write('\n'.join(parts + ['</svg>', '']))
     return 0
