@@ -29,7 +29,7 @@ use Rattle.fixed.specs.Logs.{up, dn, fixed, fixedZ, bracket}
 use Rattle.enclosure.specs.Promises.{Loggable, Logarithm}
 use Rattle.enclosure.specs.LogSteps.{ratio, biased, biasedPair, LnPoint, Slack, Unbiased}
 use Rattle.fixed.specs.Parts.{least}
-use Rattle.enclosure.proofs.Signed.{size}
+use Rattle.fixed.proofs.Words.{size}
 use Rattle.enclosure.proofs.OddSeries.{upper-to, ninth-from}
 use Rattle.span.specs.Powers.{powers}
 

@@ -11,7 +11,7 @@ use mir.Syntax.{w64}
 use mir.Val.{SFits}
 use borrow.Author.Tests.{le-leb, le-ltb}
 use Rattle.fixed.specs.Signed.{floorZ}
-use Rattle.fixed.proofs.Words.{R, back}
+use Rattle.signed.specs.Reading.{R, back}
 
 fits : {e v : ℤ} → e ≡ v → mag v < 2 ^ 63 → SFits w64 e
 fits p h = rw p (record { sfits = h })

@@ -11,7 +11,8 @@ use Rattle.fixed.specs.Logs.{Small}
 use Rattle.fixed.specs.Promises.{LogFactors, LogProduct}
 use Rattle.fixed.specs.Steps.{Coarse, Mirror, Pairs, lowestZ}
 use Rattle.fixed.specs.Parts.{one-sided, neg-up, neg-dn, floor-parts, min-of}
-use Rattle.fixed.proofs.Words.{R, back, Step, Magnitude, lower-end, upper-end, looser, opposite, quotient, own, returned, opposite-step, shift-step, product-size, product-step}
+use Rattle.signed.specs.Reading.{R, back}
+use Rattle.fixed.proofs.Words.{Step, Magnitude, lower-end, upper-end, looser, opposite, quotient, own, returned, opposite-step, shift-step, product-size, product-step}
 use Rattle.fixed.proofs.Products.{lowest-of, Around, around, mirrored, law}
 
 -- The smaller of two

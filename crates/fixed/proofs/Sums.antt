@@ -10,7 +10,8 @@ use Rattle.fixed.specs.Signed.{up, dn}
 use Rattle.fixed.specs.Logs.{fixed, bracket}
 use Rattle.fixed.specs.Promises.{Summands, LogSum, LogDifference}
 use Rattle.fixed.specs.Parts.{least, plus-parts, minus-parts}
-use Rattle.fixed.proofs.Words.{R, Step, lower-end, upper-end, plus-step, minus-step}
+use Rattle.signed.specs.Reading.{R}
+use Rattle.fixed.proofs.Words.{Step, lower-end, upper-end, plus-step, minus-step}
 use Rattle.fixed.specs.Ends.{Adds, sum-below, sum-above}
 
 plus : (x y : ℤ) {z : ℤ} → z ≡ x +ℤ y → Adds (up x) (dn x) (up y) (dn y) z

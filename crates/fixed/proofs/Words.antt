@@ -1,5 +1,5 @@
--- Signed numbers of 64 bits: each comes to a proof as `toZ w64 (ofZ w64 z)`, read back from its bits. A `Step` says of what the code computes
--- that it fits and what is read back of it; there is one for each operation. Assumes nothing.
+-- Steps on signed words: a `Step` says of what the code computes that it fits and what is read back of it; there is one for each operation.
+-- Assumes nothing.
 use mathlib.Core.Path.{_≡_, refl, ap, _∙_}
 use Prim.Native.Nat.{ℕ, _+_, _*_, _^_, _≤_, _<_}
 use native.Mathlib.Nat.{mul-le-mul-right, div-le-self}
@@ -7,24 +7,17 @@ use native.Mathlib.Omega.{arith}
 use lib.IntN.{ℤ, pos, negsuc, negℤ, _+ℤ_, _-ℤ_, _*ℤ_, +ℤ-idl}
 use lib.Signed.{mag, shrZ}
 use mir.Syntax.{w64}
-use mir.Val.{ofZ, toZ, SFits}
-use mir.ValLaws.{toZ-ofZ}
+use mir.Val.{SFits}
+use Rattle.signed.specs.Reading.{R, back}
 use Rattle.fixed.specs.declared.Log.{Log}
 use Rattle.fixed.specs.Signed.{up, dn, floorZ}
 use Rattle.fixed.specs.Logs.{Small}
 use Rattle.fixed.specs.Parts.{least, one-sided, neg-up, neg-dn, plus-parts, minus-parts, times-parts, multiple-up, multiple-dn}
 use Rattle.fixed.proofs.Within.{within}
 
--- the number that the code reads
-abbrev pub R : ℤ → ℤ
-R z = toZ w64 (ofZ w64 z)
-
 pub size : (z : ℤ) → up z < 2 ^ 63 → dn z < 2 ^ 63 → mag z < 2 ^ 63
 size (pos n) h k = omega arith
 size (negsuc n) h k = omega arith
-
-pub back : (z : ℤ) → mag z < 2 ^ 63 → R z ≡ z
-back z h = toZ-ofZ w64 z (record { sfits = h })
 
 -- |z| ≤ M
 pub record Magnitude (M : ℕ) (z : ℤ) : Type 0 where

@@ -1,4 +1,3 @@
 -- Laws that several proofs cite.
 pub mod Products
 pub mod Ranks
-pub mod Signs

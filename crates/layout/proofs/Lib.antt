@@ -1,3 +1,2 @@
 pub mod Parts
-pub mod Signs
 pub mod Lengths

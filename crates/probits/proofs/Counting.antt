@@ -9,7 +9,8 @@ use Rattle.fixed.specs.declared.Log.{Log}
 use Rattle.fixed.specs.Logs.{Narrow, Small}
 use Rattle.fixed.specs.Promises.{Summands, LogSum, LogDifference, Scalable, Scaled}
 use Rattle.fixed.specs.Millis.{floorMilli, ceilMilli}
-use Rattle.fixed.proofs.Words.{R, own}
+use Rattle.signed.specs.Reading.{R}
+use Rattle.fixed.proofs.Words.{own}
 use Rattle.fixed.specs.Thousandths.{thousandths, millis-hold}
 use Rattle.fixed.specs.Enclosing.{constant-encloses, sum-encloses, difference-encloses, scaled-encloses, ratio-value, wider, larger}
 use Rattle.enclosure.specs.Promises.{enough, reach, Loggable, Logarithm}

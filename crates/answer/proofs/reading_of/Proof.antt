@@ -2,7 +2,7 @@
 use mathlib.Core.Path.{_≡_, ap, ap₂, _∙_}
 use Prim.Native.Nat.{ℕ}
 use Rattle.guidance.specs.Damage.{damage}
-use Rattle.fixed.proofs.Words.{back}
+use Rattle.signed.specs.Reading.{back}
 use Rattle.layout.specs.declared.Ends.{Ends}
 use Rattle.answer.specs.Answer.{reading}
 use borrow.Author.Needs.{needs}

@@ -2,31 +2,31 @@
 use mathlib.Core.Path.{_≡_, ap, _∙_}
 use native.Mathlib.Omega.{arith}
 use lib.IntN.{ℤ, pos, _-ℤ_}
-use mir.Syntax.{w64}
-use mir.Val.{ofZ, toZ}
 use Rattle.span.specs.Enclosing.{divisor}
 use Rattle.fixed.specs.declared.Log.{Log}
 use Rattle.fixed.specs.Logs.{apart}
 use Rattle.enclosure.specs.Promises.{Exponent}
-use Rattle.enclosure.proofs.Signed.{back, step, size, difference}
+use Rattle.signed.specs.Reading.{R, back, step}
+use Rattle.fixed.proofs.Words.{size}
+use Rattle.enclosure.proofs.Signed.{difference}
 use Rattle.enclosure.proofs.ExpInterval.{upper-least, interval}
 use Rattle.enclosure.proofs.expo.Statement.{statement}
 use Rattle.enclosure.proofs.expo.Tie as tie
 
 -- the ends and the width, as the code reads them
 module _ (y : Log) (e : Exponent y) where
-  hi-read : toZ w64 (ofZ w64 (y .hi)) ≡ y .hi
+  hi-read : R (y .hi) ≡ y .hi
   hi-read = back (y .hi) (size (y .hi) (omega (arith, e .most)) (omega (arith, upper-least y e)))
 
-  lo-read : toZ w64 (ofZ w64 (y .lo)) ≡ y .lo
+  lo-read : R (y .lo) ≡ y .lo
   lo-read = back (y .lo) (size (y .lo) (omega (arith, e .ordered .ordered, e .most, e .least)) (omega (arith, e .least)))
 
-  wide : toZ w64 (ofZ w64 (y .hi)) -ℤ toZ w64 (ofZ w64 (y .lo)) ≡ pos (apart (y .lo) (y .hi))
+  wide : R (y .hi) -ℤ R (y .lo) ≡ pos (apart (y .lo) (y .hi))
   wide =
-      ap (λ (z : ℤ). z -ℤ toZ w64 (ofZ w64 (y .lo))) hi-read ∙ ap (λ (z : ℤ). y .hi -ℤ z) lo-read
+      ap (λ (z : ℤ). z -ℤ R (y .lo)) hi-read ∙ ap (λ (z : ℤ). y .hi -ℤ z) lo-read
       ∙ difference (y .hi) (y .lo) _ (omega (arith, e .ordered .ordered))
 
-  wide-read : toZ w64 (ofZ w64 (toZ w64 (ofZ w64 (y .hi)) -ℤ toZ w64 (ofZ w64 (y .lo)))) ≡ pos (apart (y .lo) (y .hi))
+  wide-read : R (R (y .hi) -ℤ R (y .lo)) ≡ pos (apart (y .lo) (y .hi))
   wide-read = step wide (omega (arith, e .narrow .narrow))
 
 point-requires : tie.Need-point-requires

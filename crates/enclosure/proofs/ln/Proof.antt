@@ -2,7 +2,7 @@
 use Prim.Native.Nat.{_+_, _^_, _≤_, _<_}
 use native.Mathlib.Omega.{arith}
 use borrow.Author.Needs.{needs}
-use Rattle.enclosure.proofs.Signed.{back}
+use Rattle.signed.specs.Reading.{back}
 use Rattle.enclosure.proofs.LnInterval.{word-fits, unbiased-fits, logarithm}
 use Rattle.enclosure.proofs.ln.Statement.{statement}
 use Rattle.enclosure.proofs.ln.Tie as tie

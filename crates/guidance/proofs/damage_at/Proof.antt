@@ -1,21 +1,21 @@
 -- `guidance::damage_at` meets its contract. Assumes nothing.
 use mathlib.Core.Path.{sym, _∙_, ap}
 use native.Mathlib.Omega.{arith}
-use lib.IntN.{ℤ, natAbs}
+use lib.IntN.{ℤ, pos, natAbs}
 use Prim.Native.Nat.{_^_, _<_}
 use borrow.Author.Needs.{needs}
 use Rattle.guidance.specs.Damage.{table, notAbove, tenthsOfPercent, damage}
-use Rattle.guidance.proofs.Signs.{Natural, natural, negative}
+use Rattle.signed.specs.Reading.{Read, as-pos, as-neg}
 use Rattle.guidance.proofs.damage_at.Statement.{statement}
 use Rattle.guidance.proofs.damage_at.Tie as tie
 
-from-zero : (c : tie.Then1) → Natural (c .before .args .probit)
-from-zero c = natural _ (c .before .fits .probit .sfits) (c .if1 .taken)
+from-zero : (c : tie.Then1) → Read pos (c .before .args .probit)
+from-zero c = as-pos _ (c .before .fits .probit .sfits) (c .if1 .taken)
 
 cast-reading : tie.Need-cast-reading
 cast-reading c =
     let x = from-zero c in
-    let small : x .number < 2 ^ 63 = rw (x .same) at (c .before .fits .probit .sfits) in
+    let small : x .a < 2 ^ 63 = rw (x .same) at (c .before .fits .probit .sfits) in
     rw (x .read) (tt, record { fits = omega arith })
 
 reading-requires : tie.Need-reading-requires
@@ -29,7 +29,7 @@ returns c =
 
 returns-2 : tie.Need-returns-2
 unfolding damage
-returns-2 c = sym (ap damage (negative (c .before .args .probit) (c .before .fits .probit .sfits) (c .if1 .left) .same))
+returns-2 c = sym (ap damage (as-neg (c .before .args .probit) (c .before .fits .probit .sfits) (c .if1 .left) .same))
 
 pub damage-at-spec : {M : Type 1} → statement M
 damage-at-spec = tie.close (tie.spec cast-reading reading-requires returns returns-2)

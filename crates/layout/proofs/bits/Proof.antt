@@ -1,13 +1,19 @@
 -- `layout::bits` meets its contract. Assumes nothing.
 use mathlib.Core.Path.{_≡_, sym, ap, _∙_}
-use Prim.Native.Nat.{ℕ, suc, _-_, _^_, _<_}
+use mathlib.Core.Bool.{Bool, cond}
+use Prim.Native.Nat.{ℕ, suc, _-_, _^_, _≤_, _<_}
 use native.Mathlib.Omega.{arith}
-use lib.IntN.{ℤ, pos, negsuc, _+ℤ_}
+use lib.IntN.{ℤ, pos, negsuc, subℕ, _+ℤ_}
+use borrow.Author.Tests.{le-ltb}
 use lib.Signed.{mag}
 use Rattle.layout.specs.Bytes.{twos}
-use Rattle.layout.proofs.Signs.{R, step, Read, as-pos, as-neg, sub-least}
+use Rattle.signed.specs.Reading.{R, step, Read, as-pos, as-neg}
 use Rattle.layout.proofs.bits.Statement.{statement}
 use Rattle.layout.proofs.bits.Tie as tie
+
+-- a number below a power, taken from it
+sub-least : (a b : ℕ) → b ≤ a → subℕ a b ≡ pos (a - b)
+sub-least a b h = ap (λ (t : Bool). cond t (negsuc (b - suc a)) (pos (a - b))) (le-ltb a b h)
 
 positive : (c : tie.Then1) → Read pos (c .before .args .x)
 positive c = as-pos _ (c .before .fits .x .sfits) (c .if1 .taken)

@@ -6,7 +6,7 @@ use lib.Seq.{sets}
 use denote.Ref.{now}
 use Rattle.layout.specs.Bytes.{twos, words, signeds}
 use Rattle.layout.specs.Places.{probitOf}
-use Rattle.layout.proofs.Signs.{back}
+use Rattle.signed.specs.Reading.{back}
 use borrow.Author.Needs.{needs}
 use Rattle.layout.proofs.put_probit.Statement.{statement}
 use Rattle.layout.proofs.put_probit.Tie as tie

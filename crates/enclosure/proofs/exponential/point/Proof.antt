@@ -2,18 +2,17 @@
 use mathlib.Core.Path.{_≡_, ap, _∙_}
 use Prim.Native.Nat.{suc, _*_, _^_, _<_}
 use native.Mathlib.Omega.{arith}
-use lib.IntN.{ℤ, pos, _-ℤ_}
-use mir.Syntax.{w64}
-use mir.Val.{ofZ, toZ}
-use Rattle.enclosure.proofs.Signed.{step, AsPos, AsNeg, as-pos, as-neg, opposite}
+use lib.IntN.{ℤ, pos, negsuc, _-ℤ_}
+use Rattle.signed.specs.Reading.{R, step, Read, as-pos, as-neg}
+use Rattle.enclosure.proofs.Signed.{opposite}
 use Rattle.enclosure.proofs.ExpSigns.{at-positive}
 use Rattle.enclosure.proofs.exponential.point.Statement.{statement}
 use Rattle.enclosure.proofs.exponential.point.Tie as tie
 
-above : (c : tie.Then1) → AsPos (c .before .args .y)
+above : (c : tie.Then1) → Read pos (c .before .args .y)
 above c = as-pos _ (c .before .fits .y .sfits) (c .if1 .taken)
 
-below : (c : tie.Else1) → AsNeg (c .before .args .y)
+below : (c : tie.Else1) → Read negsuc (c .before .args .y)
 below c = as-neg _ (c .before .fits .y .sfits) (c .if1 .left)
 
 small : (c : tie.Then1) → above c .a < 512 * 2 ^ 30
@@ -24,10 +23,10 @@ module _ (c : tie.Else1) where
   least : suc (below c .a) < 512 * 2 ^ 30
   least = let p = rw (below c .same) at (c .before .pre) in p .1
 
-  turned : pos 0 -ℤ toZ w64 (ofZ w64 (c .before .args .y)) ≡ pos (suc (below c .a))
+  turned : pos 0 -ℤ R (c .before .args .y) ≡ pos (suc (below c .a))
   turned = ap (λ (z : ℤ). pos 0 -ℤ z) (below c .read) ∙ opposite (below c .a)
 
-  turned-back : toZ w64 (ofZ w64 (pos 0 -ℤ toZ w64 (ofZ w64 (c .before .args .y)))) ≡ pos (suc (below c .a))
+  turned-back : R (pos 0 -ℤ R (c .before .args .y)) ≡ pos (suc (below c .a))
   turned-back = step turned (omega (arith, least))
 
 cast-a : tie.Need-cast-a

@@ -10,7 +10,7 @@ use mir.ValLaws.{toZ-pos}
 use borrow.Author.Needs.{needs}
 use Rattle.enclosure.specs.LogSteps.{Unbiased}
 use Rattle.fixed.specs.Parts.{minus-parts}
-use Rattle.enclosure.proofs.Signed.{step}
+use Rattle.signed.specs.Reading.{step}
 use Rattle.enclosure.proofs.LnInterval.{unbiased-fits}
 use Rattle.enclosure.proofs.logarithm.unbiased.Statement.{statement}
 use Rattle.enclosure.proofs.logarithm.unbiased.Tie as tie

@@ -1,7 +1,7 @@
 -- `enclosure_client::points::enclosure_expo` meets its contract. Assumes nothing.
 use mathlib.Core.Path.{refl}
 use borrow.Author.Needs.{needs}
-use Rattle.enclosure.proofs.Signed.{back}
+use Rattle.signed.specs.Reading.{back}
 use Rattle.enclosure_client.proofs.points.enclosure_expo.Statement.{statement}
 use Rattle.enclosure_client.proofs.points.enclosure_expo.Tie as tie
 

@@ -1,11 +1,12 @@
--- A signed word by its sign, as the contract has it and as the code reads it. Assumes nothing.
+-- Signed words of 64 bits in a proof: each comes as `toZ w64 (ofZ w64 z)`, read back from its bits, which is z itself wherever z fits; and
+-- what a word is after a test of its sign. Assumes nothing.
 use mathlib.Core.Path.{_≡_, refl, sym, ap, _∙_}
-use mathlib.Core.Bool.{Bool, true, false, cond}
-use Prim.Native.Nat.{ℕ, suc, _-_, _^_, _≤_, _<_}
+use mathlib.Core.Bool.{true, false}
+use Prim.Native.Nat.{ℕ, _^_, _<_}
 use native.Mathlib.Omega.{arith}
-use lib.IntN.{ℤ, pos, negsuc, subℕ, _+ℤ_}
+use lib.IntN.{ℤ, pos, negsuc}
 use lib.Signed.{mag, leZ}
-use borrow.Author.Tests.{le-leb, le-ltb}
+use borrow.Author.Tests.{le-leb}
 use mir.Syntax.{w64}
 use mir.Val.{ofZ, toZ}
 use mir.ValLaws.{toZ-ofZ}
@@ -32,7 +33,7 @@ is-neg : (z : ℤ) → leZ (pos 0) z ≡ false → (a : ℕ) × (z ≡ negsuc a)
 is-neg (pos a) h = absurd (never (sym h ∙ le-leb 0 a (omega arith)))
 is-neg (negsuc a) h = (a, refl)
 
--- x is pos a, or negsuc a, after the test 0 <= x
+-- x is pos a, or negsuc a, after the test 0 <= x: as the contract has it and as the code reads it
 pub record Read (s : ℕ → ℤ) (x : ℤ) : Type 0 where
   pub a : ℕ
   pub same : x ≡ s a
@@ -43,7 +44,3 @@ as-pos x h t = let p = is-pos _ t in record { a = p .0; same = sym (back x h) �
 
 pub as-neg : (x : ℤ) → mag x < 2 ^ 63 → leZ (pos 0) (R x) ≡ false → Read negsuc x
 as-neg x h t = let p = is-neg _ t in record { a = p .0; same = sym (back x h) ∙ p .1; read = p .1 }
-
--- a negative number and a power above it
-pub sub-least : (a b : ℕ) → b ≤ a → subℕ a b ≡ pos (a - b)
-sub-least a b h = ap (λ (t : Bool). cond t (negsuc (b - suc a)) (pos (a - b))) (le-ltb a b h)

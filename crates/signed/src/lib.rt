@@ -1,0 +1,1 @@
+// Signed words in proofs are all in specs/: laws, no code.
