@@ -4,7 +4,7 @@ ghost use mathlib.Core.Path.{_≡_};
 ghost use Prim.Native.Nat.{_^_, _≤_, _<_};
 ghost use Rattle.span.specs.Spans.{Smaller};
 ghost use Rattle.guidance.specs.Cases.{Air, Accepted};
-ghost use Rattle.guidance.specs.Waves.{reducedDistance, gasPressure, gasImpulse, aerosolPressure, aerosolImpulse, detonationPressure, detonationImpulse, deflagrationPressure, deflagrationImpulse, reducedPressure, reducedImpulse, overpressure};
+ghost use Rattle.guidance.specs.Waves.{reducedDistance, gasPressure, gasImpulse, aerosolPressure, aerosolImpulse, detonationPressure, detonationImpulse, deflagrationPressure, deflagrationImpulse, reducedPressure, reducedImpulse, overpressure, impulse};
 ghost use Rattle.blast.specs.Promises.{Enclosure, Ready, PressureSpan, ImpulseSpan, WaveOf, Ended, Roundable, Rounded};
 ghost use Rattle.blast.specs.Steps.{Seen, Far, Image, Waves, Worded, EnergySpan, Rootable, CubeRoot, AirPower, MachSpan, DeflagrationSpan, Reduced, nearImpulse};
 use guidance::Case;
@@ -51,13 +51,6 @@ const NEAREST: Span = Span {
     lo: 1460288880,
     hi: 1460288881,
     e: 992,
-};
-
-// C0, 340 m/s.
-const SOUND: Span = Span {
-    lo: 1426063360,
-    hi: 1426063360,
-    e: 1002,
 };
 
 // E in joules; 3/4 of the words where the cloud is heterogeneous and deflagrates.
@@ -157,6 +150,23 @@ fn near_impulse(state: u64) -> Span
     }
 }
 
+// Ix of a detonation.
+fn detonation_impulse(c: Case, k: Cloud, air: u64, x: Span) -> Span
+    requires { ⌜ Seen c k air x ⌝ }
+    ensures { λ r. ⌜ Enclosure (detonationImpulse air c) 180 979 998 r ⌝ }
+{
+    let near = guidance::is_near_field(c, k, air);
+    if near {
+        return near_impulse(c.state);
+    }
+    if c.state == 1 {
+        waves::aerosol_impulse(x)
+    } else {
+        let l = waves::log_distance(x);
+        waves::gas_impulse(l)
+    }
+}
+
 // Px and Ix of a detonation.
 fn detonation(c: Case, k: Cloud, air: u64, x: Span) -> Wave
     requires { ⌜ Seen c k air x ⌝ }
@@ -206,6 +216,17 @@ fn deflagration_pressure(c: Case, k: Cloud, air: u64, x: Span) -> Span
     waves::deflagration_pressure(w, g, y)
 }
 
+// Ix of a deflagration.
+fn deflagration_impulse(c: Case, k: Cloud, air: u64, x: Span) -> Span
+    requires { ⌜ Seen c k air x ⌝ }
+    ensures { λ r. ⌜ Enclosure (deflagrationImpulse air c) 1455 970 994 r ⌝ }
+{
+    let w = mach_number(c, k, air);
+    let g = waves::expansion(c.state);
+    let y = deflagration_distance(c, k, air, x);
+    waves::deflagration_impulse(w, g, y)
+}
+
 // Px and Ix of a deflagration.
 fn deflagration(c: Case, k: Cloud, air: u64, x: Span) -> Wave
     requires { ⌜ Seen c k air x ⌝ }
@@ -231,6 +252,20 @@ fn reduced_pressure(c: Case, k: Cloud, air: u64) -> Span
     }
     let f = deflagration_pressure(c, k, air, x);
     span::lesser(f, d)
+}
+
+// Ix: in ranges 2 to 6 the smaller of the two.
+fn reduced_impulse(c: Case, k: Cloud, air: u64) -> Span
+    requires { ⌜ Ready c k air ⌝ }
+    ensures { λ r. ⌜ Enclosure (reducedImpulse air c) 1455 970 998 r ⌝ }
+{
+    let x = reduced_distance(c, k, air);
+    let detonated = detonation_impulse(c, k, air, x);
+    if k.range < 2 {
+        return detonated;
+    }
+    let burnt = deflagration_impulse(c, k, air, x);
+    span::lesser(burnt, detonated)
 }
 
 // The smaller of two waves, in each figure.
@@ -276,7 +311,7 @@ fn pascal_seconds(c: Case, k: Cloud, air: u64, ix: Span) -> Span
     let joules = energy(k);
     let root = cube_root(joules);
     let all = span::mul(share, root);
-    span::quo(all, SOUND)
+    span::quo(all, waves::coefficients::SOUND)
 }
 
 // ΔP of an accepted case, in Pa.
@@ -286,6 +321,15 @@ pub fn pressure_span(c: Case, k: Cloud, air: u64) -> Span
 {
     let px = reduced_pressure(c, k, air);
     pascals(c, k, air, px)
+}
+
+// I of an accepted case, in Pa·s.
+pub fn impulse_span(c: Case, k: Cloud, air: u64) -> Span
+    requires { ⌜ Ready c k air ⌝ }
+    ensures { λ s. ⌜ ImpulseSpan air c s ⌝ }
+{
+    let ix = reduced_impulse(c, k, air);
+    pascal_seconds(c, k, air, ix)
 }
 
 // ΔP and I of an accepted case, in Pa and Pa·s.
@@ -316,5 +360,15 @@ pub fn pressure(c: Case, air: u64) -> Ends
 {
     let k = guidance::cloud_of(c);
     let s = pressure_span(c, k, air);
+    ends(s)
+}
+
+// I of an accepted case in whole pascal-seconds, without the work of the overpressure.
+pub fn impulse(c: Case, air: u64) -> Ends
+    requires { ⌜ (Accepted air c) × (Air air) ⌝ }
+    ensures { λ e. ⌜ Ended (impulse air c) (2 ^ 24) e ⌝ }
+{
+    let k = guidance::cloud_of(c);
+    let s = impulse_span(c, k, air);
     ends(s)
 }

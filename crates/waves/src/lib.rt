@@ -7,7 +7,7 @@ ghost use Rattle.waves.specs.Deflagration.{FallingPressure, FallingImpul
 use fixed::Log;
 use span::Span;
 
-mod coefficients;
+pub mod coefficients;
 
 // Heterogeneous detonation: 0.125/R + 0.137/R² + 0.023/R³.
 pub fn aerosol_pressure(r: Span) -> Span
