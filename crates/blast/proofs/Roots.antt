@@ -1,6 +1,6 @@
 -- x^(p/6) as e^ of a multiple of ln: what the three calls promise, put together. Assumes nothing.
 use Prim.Native.Nat.{ℕ, _+_, _*_, _^_, _≤_}
-use mathlib.Core.Path.{_≡_}
+use mathlib.Core.Path.{_≡_, subst⁻¹}
 use native.Mathlib.Omega.{arith}
 use native.Mathlib.Nat.{mul-le-mul-right}
 use Rattle.exact.specs.Fraction.{Ratio, whole, ofRatio}
@@ -15,10 +15,11 @@ use Rattle.fixed.specs.Enclosing.{scaled-encloses, ratio-value, larger}
 use Rattle.fixed.specs.Enclosing as multiples
 use Rattle.enclosure.specs.Promises.{enough, reach, octave, Loggable, Logarithm, Exponent, Exponential}
 use Rattle.enclosure.specs.Enclosing.{logarithm-encloses, expo-encloses, logarithm-small}
+use Rattle.enclosure.specs.PowerWindows.{PowerIn, power-enclosed, power-narrow}
 use Rattle.guidance.specs.Waves.{number, raised, third, twoThirds}
 use Rattle.guidance.specs.Cases.{Air}
 use Rattle.waves.specs.Ends.{LowerAtMost, UpperAtLeast, enclosed-lower, enclosed-upper, exponent-most-of}
-use Rattle.blast.specs.Windows.{air-between}
+use Rattle.blast.specs.Windows.{air-reached, air-between}
 use Rattle.blast.specs.Exponents.{exponent-from}
 use Rattle.blast.specs.Steps.{Rootable, CubeRoot, AirPower}
 
@@ -96,6 +97,36 @@ module _ {t : Span} (s : Rootable t) where
 
 -- P0^(2/3)
 
+module _ {air : ℕ} {r : Span} (a : Air air) (normal : Normal r) (narrow : Width r 45)
+    (encloses : (n : ℕ) → enough ≤ n → Encloses r (raised twoThirds (number (whole air))) n) where
+  at-most : LowerAtMost r 2310 1
+  unfolding whole
+  at-most = enclosed-lower (whole 1290) (whole 2310) (encloses enough (omega arith)) (air-between air a enough (omega arith))
+
+  at-least : UpperAtLeast r 1290 1
+  unfolding whole
+  at-least = enclosed-upper (whole 1290) (whole 2310) (encloses enough (omega arith)) (air-between air a enough (omega arith))
+
+  placed-power : AirPower air r
+  placed-power =
+      record {
+        power =
+            record {
+              normal = normal;
+              encloses = encloses;
+              width = narrow;
+              least = exponent-from normal 10 (omega (arith, at-least .above));
+              most = exponent-most-of normal (wider (omega arith) narrow) at-most (omega arith) 12 (omega arith);
+            };
+        lower = at-most;
+      }
+
+-- at one pressure, in a span of the source
+pub standard-result : {air t j : ℕ} {r : Span} → Air air → air ≡ t → PowerIn twoThirds (whole t) j r → AirPower air r
+standard-result {j = j} {r = r} a e h =
+    let here = subst⁻¹ (λ (i : ℕ). PowerIn twoThirds (whole i) j r) e h in
+    placed-power a (h .normal) (wider (omega arith) (power-narrow h)) (λ n l. power-enclosed (air-reached a) here n (omega arith))
+
 module _ {air : ℕ} {p : Span} (a : Air air) (w : Whole air p) where
   pub air-of : (q : ℕ) → q ≤ 4 → Rooting p 2 16 q 12
   air-of q i =
@@ -120,25 +151,5 @@ module _ {air : ℕ} {p : Span} (a : Air air) (w : Whole air p) where
     unfolding whole ofRatio wholeF
     air-encloses n e = power-encloses rooting g m x twoThirds i _ n e (whole-encloses w n)
 
-    at-most : LowerAtMost r 2310 1
-    unfolding whole
-    at-most = enclosed-lower (whole 1290) (whole 2310) (air-encloses enough (omega arith)) (air-between air a enough (omega arith))
-
-    at-least : UpperAtLeast r 1290 1
-    unfolding whole
-    at-least = enclosed-upper (whole 1290) (whole 2310) (air-encloses enough (omega arith)) (air-between air a enough (omega arith))
-
     pub air-result : AirPower air r
-    air-result =
-        let narrow = power-width rooting g m x 2 14 (w .width) (omega arith) (omega (arith, i)) in
-        record {
-          power =
-              record {
-                normal = x .normal;
-                encloses = air-encloses;
-                width = narrow;
-                least = exponent-from (x .normal) 10 (omega (arith, at-least .above));
-                most = exponent-most-of (x .normal) (wider (omega arith) narrow) at-most (omega arith) 12 (omega arith);
-              };
-          lower = at-most;
-        }
+    air-result = placed-power a (x .normal) (power-width rooting g m x 2 14 (w .width) (omega arith) (omega (arith, i))) air-encloses

@@ -16,6 +16,7 @@ use Rattle.exact.specs.laws.Containment.{Inside}
 use Rattle.exact.specs.laws.Steps.{div-inside}
 use Rattle.exact.specs.laws.Points.{point, pair, point-inside, signed-above, signed-product, product-signed}
 use Rattle.exact.specs.laws.Quotient.{cube-root-quotient}
+use Rattle.enclosure.specs.PowerWindows.{positive-of}
 use Rattle.guidance.specs.declared.Case.{Case}
 use Rattle.guidance.specs.Clouds.{over}
 use Rattle.guidance.specs.Distances.{metres, nearer, cube02, cube025, cube034, cube24}
@@ -25,10 +26,6 @@ use Rattle.guidance.specs.laws.Domain.{heated, air-above, perAir, perAir-above,
 use Rattle.blast.specs.Replacing.{Within, const-within, within-refl, mul-within, div-within, ln-within, exp-within, within-inside}
 
 -- E/P0 is a fraction
-
-pub positive-of : (x : Ratio) → Above0 x → Positive (ofRatio x)
-unfolding ofRatio
-positive-of x h = record { above = h .above }
 
 inverse-least : (x : Ratio) (h : Above0 x) (q : Positive (ofRatio x)) → ofRatio (recip x h) ⊑ inverse (ofRatio x) q
 unfolding ofRatio recip inverse

@@ -53,6 +53,13 @@ const NEAREST: Span = Span {
     e: 992,
 };
 
+// P0^(2/3) at 101,300 Pa.
+const STANDARD_POWER: Span = Span {
+    lo: 1139312549,
+    hi: 1139312550,
+    e: 1005,
+};
+
 // E in joules; 3/4 of the words where the cloud is heterogeneous and deflagrates.
 fn energy(k: Cloud) -> Span
     requires { ⌜ Worded k ⌝ }
@@ -81,6 +88,9 @@ fn air_power(air: u64) -> Span
     requires { ⌜ Air air ⌝ }
     ensures { λ r. ⌜ AirPower air r ⌝ }
 {
+    if air == 101300 {
+        return STANDARD_POWER;
+    }
     let p = span::whole(air);
     let l = enclosure::ln(p);
     let y = fixed::sixths(l, 4);

@@ -3,3 +3,4 @@ pub mod LogSteps
 pub mod ExpSteps
 pub mod Enclosing
 pub mod Bounds
+pub mod PowerWindows

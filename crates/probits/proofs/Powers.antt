@@ -1,5 +1,5 @@
 -- Powers and roots by ln, a multiple and e^: windows, widths and what they enclose, from the promises of the calls. Assumes nothing.
-use mathlib.Core.Path.{_≡_}
+use mathlib.Core.Path.{_≡_, subst⁻¹}
 use Prim.Native.Nat.{ℕ, _+_, _*_, _^_, _≤_, _<_}
 use native.Mathlib.Omega.{arith}
 use Rattle.exact.specs.Fraction.{Ratio, whole, ofRatio}
@@ -14,8 +14,10 @@ use Rattle.fixed.specs.Promises.{Scalable, Scaled}
 use Rattle.fixed.specs.Enclosing.{scaled-encloses, ratio-value, larger, wider as narrower}
 use Rattle.enclosure.specs.Promises.{enough, reach, Loggable, Logarithm, Exponent, Exponential}
 use Rattle.enclosure.specs.Enclosing.{logarithm-encloses, expo-encloses, logarithm-small}
-use Rattle.guidance.specs.Waves.{tenths}
-use Rattle.probits.specs.Steps.{Based, RatioPower, Rootable, Root}
+use Rattle.enclosure.specs.PowerWindows.{PowerIn, whole-reached, power-enclosed, power-narrow}
+use Rattle.guidance.specs.Cases.{Air}
+use Rattle.guidance.specs.Waves.{tenths, half}
+use Rattle.probits.specs.Steps.{Based, RatioPower, Rootable, Root, AirRoot}
 
 -- a whole number as the guidance writes it
 pub whole-number : {m : ℕ} {r : Span} → Whole m r → (n : ℕ) → Encloses r (const (ofRatio (whole m))) n
@@ -108,3 +110,16 @@ module _ {n p : ℕ} (b : Rootable n p) {a : Span} (w : Whole n a) where
             least = omega (arith, e .least 10 (omega (arith, root-scaled .hi-dn)));
             most = omega (arith, e .most 10 (omega (arith, root-scaled .hi-up)));
           }
+
+-- P0^(1/2)
+
+-- p sixths are a half
+pub air-root : {air p : ℕ} {r : Span} → 1 * 6 ≡ p * 2 → Root air p r → AirRoot air r
+air-root e x = record { normal = x .normal; encloses = λ n l. x .encloses half n e l; width = x .width; least = x .least; most = x .most }
+
+-- at one pressure, in a span of the source
+pub standard-root : {air t j : ℕ} {r : Span} → Air air → air ≡ t → PowerIn half (whole t) j r → 980 ≤ r .e → r .e ≤ 1010 → AirRoot air r
+standard-root {air} {j = j} {r = r} a e h l m =
+    let here = subst⁻¹ (λ (i : ℕ). PowerIn half (whole i) j r) e h in
+    let reached = whole-reached half air 17 9 (omega (arith, a .least)) (omega (arith, a .most)) (omega arith) in
+    record { normal = h .normal; encloses = λ n k. power-enclosed reached here n (omega arith); width = wider (omega arith) (power-narrow h); least = l; most = m }

@@ -10,10 +10,10 @@ use Rattle.span.specs.Spans.{Width, Whole, Constant, Factors, Product, Divisibl
 use Rattle.span.specs.Enclosing.{Encloses, constant-encloses, product-encloses, quotient-encloses, sum-encloses, divisor, wider}
 use Rattle.enclosure.specs.Promises.{enough}
 use Rattle.guidance.specs.Cases.{Air}
-use Rattle.guidance.specs.Waves.{number, tenths, hundredths, raised, half, third}
+use Rattle.guidance.specs.Waves.{number, tenths, hundredths, raised, third}
 use Rattle.guidance.specs.Probits.{probit1At, probit2At, probit3At, probit5At}
 use Rattle.probits.specs.Promises.{Pressure, Impulse, Loaded, Resisting, ProbitOf}
-use Rattle.probits.specs.Steps.{RatioPower, Root, Summed, FallingProbit, Resistance, Lunged, LungPressure}
+use Rattle.probits.specs.Steps.{RatioPower, Root, AirRoot, Summed, FallingProbit, Resistance, Lunged, LungPressure}
 use Rattle.probits.specs.Coefficients.{at, weak-pressure, weak-impulse, strong-pressure, strong-impulse, lung-pressure, one, lung-impulse, throw-pressure, throw-impulse}
 use Rattle.probits.proofs.Powers.{whole-number}
 
@@ -110,12 +110,12 @@ module _ {p : Span} {air : ℕ} (m : Lunged p air) {w : Span} (a : Whole air w) 
           }
 
 -- 1.3·P0^(1/2)·m^(1/3)
-pub resistance-of : {air body : ℕ} {a b c r : Span} → Root air 3 a → Root body 2 b → Product (at 1395864371 1395864372 994) a c → Product c b r → Resistance air body r
+pub resistance-of : {air body : ℕ} {a b c r : Span} → AirRoot air a → Root body 2 b → Product (at 1395864371 1395864372 994) a c → Product c b r → Resistance air body r
 resistance-of x y u v =
     record {
       normal = v .normal;
       encloses = λ n o.
-          product-encloses v (product-encloses u (constant-encloses lung-impulse n) (x .encloses half n (omega arith) o)) (y .encloses third n (omega arith) o);
+          product-encloses v (product-encloses u (constant-encloses lung-impulse n) (x .encloses n o)) (y .encloses third n (omega arith) o);
       width = wider (omega arith) (v .width 63 60 (u .width 1 60 (lung-impulse .width) (x .width)) (y .width));
       least = omega (arith, x .least, y .least, u .least, v .least);
       most = omega (arith, x .most, y .most, u .most, v .most);

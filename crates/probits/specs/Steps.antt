@@ -51,6 +51,15 @@ pub record Root (n p : ℕ) (r : Span) : Type 0 where
   pub least : 980 ≤ r .e
   pub most : r .e ≤ 1010
 
+-- P0^(1/2)
+
+pub record AirRoot (air : ℕ) (r : Span) : Type 0 where
+  pub normal : Normal r
+  pub encloses : (n : ℕ) → enough ≤ n → Encloses r (raised half (number (whole air))) n
+  pub width : Width r 60
+  pub least : 980 ≤ r .e
+  pub most : r .e ≤ 1010
+
 -- thousandths
 
 pub record Counted (y : Log) : Type 0 where

@@ -47,6 +47,13 @@ pub const LUNG_IMPULSE: Span = Span {
     e: 994,
 };
 
+// P0^(1/2) at 101,300 Pa.
+pub const STANDARD_ROOT: Span = Span {
+    lo: 1334948855,
+    hi: 1334948856,
+    e: 1002,
+};
+
 // Pr5: 7380 and 1,300,000,000 (003).
 pub const THROW_PRESSURE: Span = Span {
     lo: 1934622720,

@@ -1,6 +1,7 @@
 // The five probits from enclosures of overpressure and impulse, in whole thousandths.
+ghost use Rattle.guidance.specs.Cases.{Air};
 ghost use Rattle.probits.specs.Promises.{Pressure, Loaded, Resisting, Probit1, Probit2, Probit3, Probit4, Probit5, AllProbits};
-ghost use Rattle.probits.specs.Steps.{Based, RatioPower, Rootable, Root, Counted, CountedIn, Summed, FallingProbit, Resistance, Lunged, LungPressure};
+ghost use Rattle.probits.specs.Steps.{Based, RatioPower, Rootable, Root, AirRoot, Counted, CountedIn, Summed, FallingProbit, Resistance, Lunged, LungPressure};
 use fixed::Log;
 use layout::Probit;
 use layout::Probits;
@@ -28,6 +29,17 @@ fn root(n: u64, p: u32) -> Span
     let l = enclosure::ln(a);
     let y = fixed::sixths(l, p);
     enclosure::expo(y)
+}
+
+// P0^(1/2)
+fn air_root(air: u64) -> Span
+    requires { ⌜ Air air ⌝ }
+    ensures { λ r. ⌜ AirRoot air r ⌝ }
+{
+    if air == 101300 {
+        return coefficients::STANDARD_ROOT;
+    }
+    root(air, 3)
 }
 
 // y in thousandths.
@@ -78,7 +90,7 @@ fn resistance(air: u64, body: u64) -> Span
     requires { ⌜ Resisting air body ⌝ }
     ensures { λ r. ⌜ Resistance air body r ⌝ }
 {
-    let a = root(air, 3);
+    let a = air_root(air);
     let b = root(body, 2);
     let c = span::mul(coefficients::LUNG_IMPULSE, a);
     span::mul(c, b)
