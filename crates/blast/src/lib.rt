@@ -1,7 +1,6 @@
 // Overpressure and impulse of an accepted case: intervals around the exact values, and whole numbers around these.
 // Branches are taken by the exact tests of `guidance` alone; each function follows its formula operation by operation.
-ghost use mathlib.Core.Path.{_≡_};
-ghost use Prim.Native.Nat.{_^_, _≤_, _<_};
+ghost use Prim.Native.Nat.{_^_, _<_};
 ghost use Rattle.span.specs.Spans.{Smaller};
 ghost use Rattle.guidance.specs.Cases.{Air, Accepted};
 ghost use Rattle.guidance.specs.Waves.{reducedDistance, gasPressure, gasImpulse, aerosolPressure, aerosolImpulse, detonationPressure, detonationImpulse, deflagrationPressure, deflagrationImpulse, reducedPressure, reducedImpulse, overpressure, impulse};
@@ -73,14 +72,12 @@ fn energy(k: Cloud) -> Span
     }
 }
 
-// t^(1/3) = e^(1/3 ln t).
+// t^(1/3).
 fn cube_root(t: Span) -> Span
     requires { ⌜ Rootable t ⌝ }
     ensures { λ r. ⌜ CubeRoot t r ⌝ }
 {
-    let l = enclosure::ln(t);
-    let y = fixed::sixths(l, 2);
-    enclosure::expo(y)
+    enclosure::sixth_power(t, 2)
 }
 
 // P0^(2/3).
@@ -92,9 +89,7 @@ fn air_power(air: u64) -> Span
         return STANDARD_POWER;
     }
     let p = span::whole(air);
-    let l = enclosure::ln(p);
-    let y = fixed::sixths(l, 4);
-    enclosure::expo(y)
+    enclosure::sixth_power(p, 4)
 }
 
 // Rx = r/(E/P0)^(1/3), at any distance.

@@ -9,3 +9,4 @@ pub mod Quadratic
 pub mod ExpProducts
 pub mod ExpSigns
 pub mod ExpInterval
+pub mod Sixths

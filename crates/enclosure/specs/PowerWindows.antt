@@ -1,6 +1,6 @@
 -- For the callers: where x^a lies for fractions x and a = p/q, from whole powers, for every N from a constant on: between two numbers
 -- (`power-between`), or within a span of the source (`power-enclosed`). Assumes nothing.
-use Prim.Native.Nat.{ℕ, suc, _+_, _*_, _-_, _^_, _≤_, _<_}
+use Prim.Native.Nat.{ℕ, suc, _+_, _*_, _-_, _^_, _≤_}
 use mathlib.Core.Path.{_≡_, sym, ap}
 use mathlib.Core.Option.{some}
 use native.Mathlib.Numerals.{add-one}

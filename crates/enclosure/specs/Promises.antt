@@ -1,10 +1,13 @@
--- What ln and e^ of an interval promise: for every point of the argument and every N from `enough` on, the N-th ends of the value there
+-- What ln, e^ and powers of an interval promise: for every point of the argument and every N from `enough` on, the N-th ends of the value there
 -- lie in the result, whose width follows from the argument's. The ends are open but for that. Assumes nothing.
 use Prim.Native.Nat.{ℕ, _+_, _*_, _^_, _≤_, _<_}
-use Rattle.exact.specs.Fraction.{Frac, Positive}
+use mathlib.Core.Path.{_≡_}
+use Rattle.exact.specs.Fraction.{Ratio, ofRatio, Frac, Positive}
 use Rattle.exact.specs.Bracket.{_∈_}
+use Rattle.exact.specs.Formula.{Formula, powerOf}
 use Rattle.span.specs.declared.Span.{Span}
 use Rattle.span.specs.Spans.{hull, Normal, Width}
+use Rattle.span.specs.Enclosing.{Encloses}
 use Rattle.span.specs.Unary.{LnWithin, ExpWithin}
 use Rattle.fixed.specs.declared.Log.{Log}
 use Rattle.fixed.specs.Logs.{up, dn, bracket, Ordered, Narrow}
@@ -54,3 +57,21 @@ pub record Exponential (y : Log) (r : Span) : Type 0 where
   pub width : (D : ℕ) → Narrow y D → Width r (D + 30)
   pub least : (k : ℕ) → dn (y .hi) ≤ k * octave → 992 ≤ r .e + k
   pub most : (k : ℕ) → up (y .hi) ≤ k * octave → r .e ≤ 996 + k
+
+-- t^(p/6)
+
+-- a span within 100 octaves of 1, within 2^-20 of itself
+pub record Powerable (t : Span) (p : ℕ) : Type 0 where
+  pub normal : Normal t
+  pub narrow : Width t (2 ^ 10)
+  pub least : 893 ≤ t .e
+  pub most : t .e ≤ 1094
+  pub sixths : p ≤ 6
+
+-- for a of the value p/6; the relative width is p/6 of the logarithm's and 31 units; k counts the argument's octaves and i the result's
+pub record SixthPower (t : Span) (p : ℕ) (r : Span) : Type 0 where
+  pub normal : Normal r
+  pub encloses : (a : Ratio) → a .num * 6 ≡ p * a .den → (x : Formula) (n : ℕ) → enough ≤ n → Encloses t x n → Encloses r (powerOf (ofRatio a) x) n
+  pub width : (D U : ℕ) → Width t D → D ≤ 2 ^ 10 → (D + 18) * p ≤ U * 6 → Width r (U + 31)
+  pub least : (k i : ℕ) → 993 ≤ t .e + k → t .e ≤ 994 + k → (reach k + 2 ^ 10 + 18) * p ≤ i * octave * 6 → 992 ≤ r .e + i
+  pub most : (k i : ℕ) → 993 ≤ t .e + k → t .e ≤ 994 + k → (reach k + 2 ^ 10 + 18) * p ≤ i * octave * 6 → r .e ≤ 996 + i

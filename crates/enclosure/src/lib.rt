@@ -1,9 +1,9 @@
-// ln and e^ of intervals on machine words: a positive interval is a `Span`, a logarithm or exponent a `Log`.
+// ln, e^ and powers of intervals on machine words: a positive interval is a `Span`, a logarithm or exponent a `Log`.
 mod exponential;
 mod logarithm;
 mod tables;
 
-ghost use Rattle.enclosure.specs.Promises.{Loggable, Logarithm, Exponent, Exponential};
+ghost use Rattle.enclosure.specs.Promises.{Loggable, Logarithm, Exponent, Exponential, Powerable, SixthPower};
 use fixed::Log;
 use span::Span;
 
@@ -29,4 +29,14 @@ pub fn expo(y: Log) -> Span
     let d = hi - y.lo;
     let w = d as u64;
     exponential::lowered(x, w)
+}
+
+// t^(p/6) = e^(p/6 ln t).
+pub fn sixth_power(t: Span, p: u32) -> Span
+    requires { ⌜ Powerable t p ⌝ }
+    ensures { λ r. ⌜ SixthPower t p r ⌝ }
+{
+    let l = ln(t);
+    let y = fixed::sixths(l, p);
+    expo(y)
 }

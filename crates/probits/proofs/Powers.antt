@@ -1,18 +1,18 @@
 -- Powers and roots by ln, a multiple and e^: windows, widths and what they enclose, from the promises of the calls. Assumes nothing.
 use mathlib.Core.Path.{_≡_, subst⁻¹}
-use Prim.Native.Nat.{ℕ, _+_, _*_, _^_, _≤_, _<_}
+use Prim.Native.Nat.{ℕ, _+_, _*_, _≤_}
 use native.Mathlib.Omega.{arith}
-use Rattle.exact.specs.Fraction.{Ratio, whole, ofRatio}
-use Rattle.exact.specs.Formula.{Formula, const}
+use Rattle.exact.specs.Fraction.{whole, ofRatio}
+use Rattle.exact.specs.Formula.{const}
 use Rattle.exact.specs.laws.Steps.{const-inside}
 use Rattle.span.specs.declared.Span.{Span}
-use Rattle.span.specs.Spans.{hull, wholeF, Normal, Width, Whole, Quotient}
+use Rattle.span.specs.Spans.{hull, wholeF, Width, Whole, Quotient}
 use Rattle.span.specs.Enclosing.{Encloses, quotient-encloses, divisor, wider}
 use Rattle.fixed.specs.declared.Log.{Log}
 use Rattle.fixed.specs.Logs.{Narrow, Small}
 use Rattle.fixed.specs.Promises.{Scalable, Scaled}
 use Rattle.fixed.specs.Enclosing.{scaled-encloses, ratio-value, larger, wider as narrower}
-use Rattle.enclosure.specs.Promises.{enough, reach, Loggable, Logarithm, Exponent, Exponential}
+use Rattle.enclosure.specs.Promises.{reach, Loggable, Logarithm, Exponent, Exponential, Powerable, SixthPower}
 use Rattle.enclosure.specs.Enclosing.{logarithm-encloses, expo-encloses, logarithm-small}
 use Rattle.enclosure.specs.PowerWindows.{PowerIn, whole-reached, power-enclosed, power-narrow}
 use Rattle.guidance.specs.Cases.{Air}
@@ -74,42 +74,25 @@ module _ {a x : Span} {t : ℕ} (b : Based a x t) {q : Span} (p : Quotient a x q
 
 -- n^(p/6)
 module _ {n p : ℕ} (b : Rootable n p) {a : Span} (w : Whole n a) where
-  pub root-loggable : Loggable a
-  root-loggable =
-      record { normal = w .normal; far = divisor (w .normal) (w .width) (omega arith); most = omega (arith, w .most 17 (b .most)) }
+  least : 994 ≤ a .e
+  least = w .least 0 (b .least)
 
-  module _ {l : Log} (g : Logarithm a l) where
-    root-small : Small l (reach 17 + 2 + 18)
-    root-small = logarithm-small 17 g (w .width) (omega arith) (omega (arith, w .least 0 (b .least))) (omega (arith, w .most 17 (b .most)))
+  most : a .e ≤ 1010
+  most = w .most 17 (b .most)
 
-    pub root-scalable : Scalable p l
-    root-scalable = record { left = g .ordered; small = larger (omega arith) root-small; factor = omega (arith, b .sixths) }
+  pub root-powerable : Powerable a p
+  root-powerable =
+      record { normal = w .normal; narrow = wider (omega arith) (w .width); least = omega (arith, least); most = omega (arith, most); sixths = omega (arith, b .sixths) }
 
-    module _ {y : Log} (s : Scaled p 6 l y) where
-      root-narrow : Narrow y 11
-      root-narrow = s .width 20 10 (g .width 2 (w .width) (omega arith)) (omega (arith, b .sixths))
-
-      root-scaled : Small y 6728872697
-      root-scaled = s .small (reach 17 + 2 + 18) 6728872697 root-small (omega (arith, b .sixths))
-
-      pub root-exponent : Exponent y
-      root-exponent =
-          record {
-            ordered = s .ordered;
-            narrow = narrower (omega arith) root-narrow;
-            least = omega (arith, root-scaled .lo-dn);
-            most = omega (arith, root-scaled .hi-up);
-          }
-
-      pub root-of : {r : Span} → Exponential y r → Root n p r
-      root-of e =
-          record {
-            normal = e .normal;
-            encloses = λ q m i o. expo-encloses e o (scaled-encloses s (ratio-value q p 6 i) (logarithm-encloses g o (whole-number w m)));
-            width = wider (omega arith) (e .width 11 root-narrow);
-            least = omega (arith, e .least 10 (omega (arith, root-scaled .hi-dn)));
-            most = omega (arith, e .most 10 (omega (arith, root-scaled .hi-up)));
-          }
+  pub root-of : {r : Span} → SixthPower a p r → Root n p r
+  root-of e =
+      record {
+        normal = e .normal;
+        encloses = λ q m i o. e .encloses q i _ m o (whole-number w m);
+        width = wider (omega arith) (e .width 2 10 (w .width) (omega arith) (omega (arith, b .sixths)));
+        least = omega (arith, e .least 17 10 (omega (arith, least)) (omega (arith, most)) (omega (arith, b .sixths)));
+        most = omega (arith, e .most 17 10 (omega (arith, least)) (omega (arith, most)) (omega (arith, b .sixths)));
+      }
 
 -- P0^(1/2)
 

@@ -1,18 +1,13 @@
 -- The sums under the logarithms of Pr1, Pr2, Pr3 and Pr5, and the probits over them. Assumes nothing.
-use mathlib.Core.Path.{_≡_, refl}
-use Prim.Native.Nat.{ℕ, _+_, _*_, _-_, _^_, _≤_, _<_}
+use Prim.Native.Nat.{ℕ, _-_, _≤_}
 use native.Mathlib.Omega.{arith}
 use lib.IntN.{ℤ}
-use Rattle.exact.specs.Fraction.{Ratio, whole, ofRatio}
-use Rattle.exact.specs.Formula.{Formula, const, add, div, mul}
 use Rattle.span.specs.declared.Span.{Span}
-use Rattle.span.specs.Spans.{Width, Whole, Constant, Factors, Product, Divisible, Quotient, Summands, Sum}
-use Rattle.span.specs.Enclosing.{Encloses, constant-encloses, product-encloses, quotient-encloses, sum-encloses, divisor, wider}
-use Rattle.enclosure.specs.Promises.{enough}
-use Rattle.guidance.specs.Cases.{Air}
-use Rattle.guidance.specs.Waves.{number, tenths, hundredths, raised, third}
+use Rattle.span.specs.Spans.{Width, Whole, Product, Divisible, Quotient, Summands, Sum}
+use Rattle.span.specs.Enclosing.{constant-encloses, product-encloses, quotient-encloses, sum-encloses, divisor, wider}
+use Rattle.guidance.specs.Waves.{hundredths, third}
 use Rattle.guidance.specs.Probits.{probit1At, probit2At, probit3At, probit5At}
-use Rattle.probits.specs.Promises.{Pressure, Impulse, Loaded, Resisting, ProbitOf}
+use Rattle.probits.specs.Promises.{Loaded, ProbitOf}
 use Rattle.probits.specs.Steps.{RatioPower, Root, AirRoot, Summed, FallingProbit, Resistance, Lunged, LungPressure}
 use Rattle.probits.specs.Coefficients.{at, weak-pressure, weak-impulse, strong-pressure, strong-impulse, lung-pressure, one, lung-impulse, throw-pressure, throw-impulse}
 use Rattle.probits.proofs.Powers.{whole-number}

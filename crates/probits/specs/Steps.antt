@@ -1,7 +1,6 @@
 -- What the private steps of the probits ask and promise. Assumes nothing.
-use Prim.Native.Nat.{ℕ, _+_, _*_, _^_, _≤_, _<_}
+use Prim.Native.Nat.{ℕ, _*_, _^_, _≤_, _<_}
 use mathlib.Core.Path.{_≡_}
-use native.Mathlib.Omega.{arith}
 use lib.IntN.{ℤ}
 use Rattle.exact.specs.Fraction.{Ratio, whole}
 use Rattle.exact.specs.Formula.{Formula, add, sub, mul, div, ln}
@@ -15,7 +14,7 @@ use Rattle.fixed.specs.Millis.{millis}
 use Rattle.enclosure.specs.Promises.{enough}
 use Rattle.guidance.specs.Cases.{Air}
 use Rattle.guidance.specs.Waves.{number, tenths, raised, half, third}
-use Rattle.probits.specs.Promises.{Pressure, Resisting, Thousandth}
+use Rattle.probits.specs.Promises.{Pressure, Thousandth}
 
 -- (a/x)^(t/10)
 

@@ -26,9 +26,7 @@ fn root(n: u64, p: u32) -> Span
     ensures { λ r. ⌜ Root n p r ⌝ }
 {
     let a = span::whole(n);
-    let l = enclosure::ln(a);
-    let y = fixed::sixths(l, p);
-    enclosure::expo(y)
+    enclosure::sixth_power(a, p)
 }
 
 // P0^(1/2)

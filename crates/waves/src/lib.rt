@@ -140,9 +140,7 @@ fn sixth_root(mass: u64) -> Span
     ensures { λ s. ⌜ SixthRoot mass s ⌝ }
 {
     let m = span::fraction(mass, 1000);
-    let l = enclosure::ln(m);
-    let y = fixed::sixths(l, 1);
-    enclosure::expo(y)
+    enclosure::sixth_power(m, 1)
 }
 
 // 43 in range 5, 26 in range 6.

@@ -4,7 +4,7 @@ use native.Mathlib.Omega.{arith}
 use borrow.Author.Needs.{needs}
 use Rattle.exact.specs.Fraction.{whole, _⊗_, power}
 use Rattle.enclosure.specs.PowerWindows.{quarters}
-use Rattle.blast.proofs.Roots.{loggable, scalable, exponent, air-of, air-result, standard-result}
+use Rattle.blast.proofs.Roots.{air-powerable, air-result, standard-result}
 use Rattle.blast.proofs.air_power.Statement.{statement}
 use Rattle.blast.proofs.air_power.Tie as tie
 
@@ -16,17 +16,11 @@ returns c = standard-result {j = 19} (c .before .pre) (c .if1 .taken) (omega ari
 whole-requires : tie.Need-whole-requires
 whole-requires c κs = search needs
 
-ln-requires : tie.Need-ln-requires
-ln-requires c κs = loggable (air-of (c .before .before .pre) (c .whole .ensures) 0 (omega arith))
-
-sixths-requires : tie.Need-sixths-requires
-sixths-requires c κs = let p = c .before in scalable (air-of (p .before .before .pre) (p .whole .ensures) _ (omega arith)) (c .ln .ensures)
-
-expo-requires : tie.Need-expo-requires
-expo-requires c κs = let l = c .before in let p = l .before in exponent (air-of (p .before .before .pre) (p .whole .ensures) _ (omega arith)) (l .ln .ensures) (c .sixths .ensures)
+sixth-power-requires : tie.Need-sixth-power-requires
+sixth-power-requires c κs = air-powerable (c .before .before .pre) (c .whole .ensures) _ (omega arith)
 
 returns-2 : tie.Need-returns-2
-returns-2 c = let l = c .before .before in let p = l .before in air-result (p .before .before .pre) (p .whole .ensures) refl (l .ln .ensures) (c .before .sixths .ensures) (c .expo .ensures)
+returns-2 c = let p = c .before in air-result (p .before .before .pre) (p .whole .ensures) refl (c .sixth-power .ensures)
 
 pub air-power-spec : {M : Type 1} → statement M
-air-power-spec = tie.close (tie.spec returns whole-requires ln-requires sixths-requires expo-requires returns-2)
+air-power-spec = tie.close (tie.spec returns whole-requires sixth-power-requires returns-2)
