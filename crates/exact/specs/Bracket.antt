@@ -1,5 +1,5 @@
 -- Brackets and intervals, with fractions for ends: when two meet, and the operations over all pairs of ends.
-use Rattle.exact.specs.Fraction.{Frac, _⊑_, Positive, quotient}
+use Rattle.exact.specs.Fraction.{Frac, _⊑_, Positive, _⊠_, inverse}
 use Rattle.exact.specs.laws.Decide.{decF}
 
 unfoldable pub smaller : Frac → Frac → Frac
@@ -30,6 +30,6 @@ outward a b c d = record { lo = smaller (smaller a b) (smaller c d); hi = larger
 unfoldable pub overPairs : (Frac → Frac → Frac) → Bracket → Bracket → Bracket
 overPairs op A B = outward (op (A .lo) (B .lo)) (op (A .lo) (B .hi)) (op (A .hi) (B .lo)) (op (A .hi) (B .hi))
 
--- item 5: the quotient over all pairs of ends, for a divisor wholly above 0
+-- item 5: x/y as x · 1/y over all pairs of ends, for a divisor wholly above 0
 unfoldable pub quotients : (A B : Bracket) → Positive (B .lo) → Positive (B .hi) → Bracket
-quotients A B h k = outward (quotient (A .lo) (B .lo) h) (quotient (A .lo) (B .hi) k) (quotient (A .hi) (B .lo) h) (quotient (A .hi) (B .hi) k)
+quotients A B h k = overPairs _⊠_ A (record { lo = inverse (B .lo) h; hi = inverse (B .hi) k })

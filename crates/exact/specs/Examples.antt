@@ -2,6 +2,7 @@
 use Prim.Native.Nat.{ℕ, suc, _-_}
 use mathlib.Core.Path.{_≡_, refl}
 use mathlib.Core.Bool.{Bool, true, false, _&&_}
+use mathlib.Core.Logic.{Dec·and}
 use mathlib.Core.Option.{Option, none, some}
 use mathlib.Core.List.{List, [], _∷_}
 use native.Mathlib.Decide.{decLe}
@@ -9,10 +10,10 @@ use native.Mathlib.Omega.{arith}
 use Rattle.exact.specs.Fraction.{whole, _⊕_, _⊗_, _⊖_, recip, power, sum, Frac, ofRatio, zeroF, oneF, magnitude, _⊞_, neg, _⊟_, _⊠_, inverse}
 use Rattle.exact.specs.Bracket.{smaller, larger, Bracket, Meet, overPairs, quotients}
 use Rattle.exact.specs.Series.{oneOver, even, lnTerm, gap, lnTail, seriesLower, seriesUpper, climb, exponent, fraction, argument, third, factorial, expTerm, expLower, expTail, expUpper}
-use Rattle.exact.specs.Ends.{ln2Lower, ln2Upper, lnLower, lnUpper, lnLowerBy, lnUpperBy, lnLowerAt, lnUpperAt, expUpperIf, expUpperOf, oneOverIf, oneOverOf, signed, expLowerBy, expUpperBy, expLowerAt, expUpperAt}
-use Rattle.exact.specs.Formula.{Formula, const, sub, div, least, ln, exp, wholePower, powerOf, bracketAt, lift, _>>_, ends, quotientIf, quotientB, lnIf, lnB, expB}
+use Rattle.exact.specs.Ends.{ln2Lower, ln2Upper, lnLower, lnUpper, lnLowerAt, lnUpperAt, expUpperOf, oneOverOf, expLowerAt, expUpperAt}
+use Rattle.exact.specs.Formula.{Formula, const, sub, div, least, ln, exp, wholePower, powerOf, bracketAt, lift, _>>_, quotientB, lnB, expB}
 use Rattle.exact.specs.laws.Containment.{false-true, inside, inside-true}
-use Rattle.exact.specs.laws.Decide.{decAbove0, decF, decPositive}
+use Rattle.exact.specs.laws.Decide.{decAbove0, decF, decPositive, decPositives}
 use Rattle.exact.specs.laws.Pairs.{_⊆_}
 
 -- p/q, for q ≥ 1
@@ -114,7 +115,7 @@ all-true (x ∷ xs) e =
     (agrees-true _ _ (b .0), all-true xs (b .1))
 
 computed : allAgree table ≡ true
-unfolding table has lacks little straddling number frac allAgree agrees inside bracketAt lift _>>_ ends quotientIf quotientB lnIf lnB expB overPairs quotients smaller larger decF decPositive decAbove0 decLe lnLowerAt lnUpperAt lnLowerBy lnUpperBy lnLower lnUpper ln2Lower ln2Upper exponent climb fraction argument third seriesLower seriesUpper lnTerm lnTail gap oneOver even expLowerAt expUpperAt expLowerBy expUpperBy expUpperIf expUpperOf oneOverIf oneOverOf signed expLower expUpper expTerm expTail factorial power sum recip whole _⊕_ _⊗_ _⊖_ ofRatio zeroF oneF magnitude _⊞_ neg _⊟_ _⊠_ inverse
+unfolding table has lacks little straddling number frac allAgree agrees inside bracketAt lift _>>_ quotientB lnB expB overPairs quotients smaller larger decF decPositive decPositives Dec·and decAbove0 decLe lnLowerAt lnUpperAt lnLower lnUpper ln2Lower ln2Upper exponent climb fraction argument third seriesLower seriesUpper lnTerm lnTail gap oneOver even expLowerAt expUpperAt expUpperOf oneOverOf expLower expUpper expTerm expTail factorial power sum recip whole _⊕_ _⊗_ _⊖_ ofRatio zeroF oneF magnitude _⊞_ neg _⊟_ _⊠_ inverse
 computed = refl
 
 worked : Worked table

@@ -10,14 +10,12 @@ pub record Ratio : Type 0 where
   pub den : ℕ
   pub positive : 0 < den
 
-infix 40 _≼_
-infixl 60 _⊕_
-infixl 60 _⊖_
-infixl 70 _⊗_
+infix 40 _≼_ _⊑_
+infixl 60 _⊕_ _⊖_ _⊞_ _⊟_
+infixl 70 _⊗_ _⊠_
 pub record _≼_ (x y : Ratio) : Type 0 where
   pub cross : x .num * y .den ≤ y .num * x .den
 
--- x > 0
 pub record Above0 (x : Ratio) : Type 0 where
   pub above : 0 < x .num
 
@@ -55,14 +53,9 @@ pub record Frac : Type 0 where
   pub den : ℕ
   pub positive : 0 < den
 
-infix 40 _⊑_
-infixl 60 _⊞_
-infixl 60 _⊟_
-infixl 70 _⊠_
 pub record _⊑_ (x y : Frac) : Type 0 where
   pub cross : x .plus * y .den + y .minus * x .den ≤ y .plus * x .den + x .minus * y .den
 
--- x > 0
 pub record Positive (x : Frac) : Type 0 where
   pub above : x .minus < x .plus
 
@@ -95,6 +88,14 @@ x ⊠ y = record { plus = x .plus * y .plus + x .minus * y .minus; minus = x .pl
 unfoldable pub inverse : (x : Frac) → Positive x → Frac
 inverse x h = record { plus = x .den; minus = 0; den = x .plus - x .minus; positive = omega arith }
 
--- x/y
-abbrev pub quotient : (x y : Frac) → Positive y → Frac
-quotient x y h = x ⊠ inverse y h
+-- the whole numbers of the sums: 2j and 2j + 1, by recursion so that they compute, and n!
+unfoldable pub even : ℕ → ℕ
+even zero = 0
+even (suc j) = suc (suc (even j))
+
+abbrev pub odd : ℕ → ℕ
+odd j = suc (even j)
+
+unfoldable pub factorial : ℕ → ℕ
+factorial zero = 1
+factorial (suc n) = suc n * factorial n

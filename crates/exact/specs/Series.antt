@@ -1,25 +1,14 @@
 -- The sums of items 1 and 2, at fractions from 0 up: ln f in u = (f - 1)/(f + 1), the reduction of t to f, and e^y.
 use Prim.Native.Nat.{ℕ, zero, suc, _*_, _^_, _<_}
-use native.Mathlib.Nat.{one-le-pow}
 use native.Mathlib.Decide.{decLe}
 use native.Mathlib.Omega.{arith}
 use Rattle.exact.specs.Fraction.{Ratio, Above0, whole, _⊕_, _⊗_, _⊖_, recip, power, sum}
+use Rattle.exact.specs.laws.Positive.{odd-pos, two-pow-pos, factorial-pos, above-suc}
+unfoldable pub use Rattle.exact.specs.Fraction.{even, odd, factorial}
 
 -- 1/n
 unfoldable pub oneOver : (n : ℕ) → 0 < n → Ratio
 oneOver n h = record { num = 1; den = n; positive = h }
-
--- 2j, by recursion so that it computes
-unfoldable pub even : ℕ → ℕ
-even zero = 0
-even (suc j) = suc (suc (even j))
-
--- 2j + 1
-abbrev pub odd : ℕ → ℕ
-odd j = suc (even j)
-
-pub odd-pos : (j : ℕ) → 0 < odd j
-odd-pos j = omega arith
 
 -- u^(2j+1)/(2j+1)
 unfoldable pub lnTerm : Ratio → ℕ → Ratio
@@ -49,16 +38,9 @@ climb (suc n) q p = elim (decLe (2 * q) p) [ yes h ↦ suc (climb n (2 * q) p) |
 unfoldable pub exponent : Ratio → ℕ
 exponent t = climb (t .num) (t .den) (t .num)
 
-pub two-pow-pos : (k : ℕ) → 0 < 2 ^ k
-two-pow-pos k = one-le-pow k 2 (omega arith)
-
 -- f
 unfoldable pub fraction : Ratio → Ratio
 fraction t = t ⊗ oneOver (2 ^ exponent t) (two-pow-pos (exponent t))
-
-pub above-suc : (f : Ratio) → Above0 (f ⊕ whole 1)
-unfolding whole _⊕_
-above-suc f = omega (arith, f .positive)
 
 -- u = (f - 1)/(f + 1)
 unfoldable pub argument : Ratio → Ratio
@@ -67,15 +49,6 @@ argument f = (f ⊖ whole 1) ⊗ recip (f ⊕ whole 1) (above-suc f)
 -- item 1: u for ln 2
 unfoldable pub third : Ratio
 third = oneOver 3 (omega arith)
-
-unfoldable pub factorial : ℕ → ℕ
-factorial zero = 1
-factorial (suc n) = suc n * factorial n
-
-pub factorial-pos : (n : ℕ) → 0 < factorial n
-unfolding factorial
-factorial-pos zero = omega arith
-factorial-pos (suc n) = omega (arith, factorial-pos n)
 
 -- y^j/j!
 unfoldable pub expTerm : Ratio → ℕ → Ratio

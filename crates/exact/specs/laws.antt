@@ -1,4 +1,5 @@
 -- The laws: nothing here need be believed.
+pub mod Positive
 pub mod Decide
 pub mod Ratio
 pub mod Frac

@@ -6,19 +6,19 @@ use mathlib.Core.Path.{_≡_, refl}
 use native.Mathlib.Omega.{arith}
 use mathlib.Core.Bool.{Bool, true, false}
 use mathlib.Core.Option.{Option, none, some}
-use Rattle.exact.specs.Fraction.{Ratio, _≼_, Above0, whole, _⊖_, sum, Frac, _⊑_, Positive, zeroF, neg, ofRatio, magnitude, oneF}
+use Rattle.exact.specs.Fraction.{Ratio, _≼_, Above0, whole, _⊖_, sum, Frac, _⊑_, Positive, zeroF, neg, magnitude, oneF}
 use Rattle.exact.specs.Bracket.{Bracket, overPairs}
 use Rattle.exact.specs.Series.{expLower, expUpper}
-use Rattle.exact.specs.Ends.{lnLowerBy, lnUpperBy, lnLowerAt, lnUpperAt, expUpperIf, expUpperOf, oneOverIf, oneOverOf, signed, expLowerBy, expUpperBy, expLowerAt, expUpperAt}
-use Rattle.exact.specs.Formula.{Formula, bracketAt, lift, _>>_, ends, lnIf, lnB, expB}
+use Rattle.exact.specs.Ends.{lnLowerAt, lnUpperAt, expUpperOf, oneOverOf, expLowerAt, expUpperAt}
+use Rattle.exact.specs.Formula.{Formula, bracketAt, lift, _>>_, lnB, expB}
 use Rattle.exact.specs.Exact.{Holds}
-use Rattle.exact.specs.laws.Decide.{decF, decPositive, decAbove0}
+use Rattle.exact.specs.laws.Decide.{decF, decPositives, decAbove0, decided, decided₂}
 use Rattle.exact.specs.laws.Divisors.{magnitude-above, one-magnitude, one-recip}
-use Rattle.exact.specs.laws.EndsMeet.{magnitude-mono, neg-below, ofRatio-mono, one-below-exp, recip-below-one, first-term}
+use Rattle.exact.specs.laws.EndsMeet.{signed, magnitude-mono, neg-below, ofRatio-mono, one-below-exp, recip-below-one, first-term}
 use Rattle.exact.specs.laws.Exp.{exp-lower-mono, exp-upper-mono}
 use Rattle.exact.specs.laws.Frac.{⊑-trans, neg-anti, positive-mono}
 use Rattle.exact.specs.laws.Ln.{ln-lower-mono, ln-upper-mono}
-use Rattle.exact.specs.laws.Meeting.{Meets, brackets-meet}
+use Rattle.exact.specs.laws.Meeting.{ends, Meets, brackets-meet}
 use Rattle.exact.specs.laws.Pairs.{_⊆_, Monotone, pairs-isotone}
 use Rattle.exact.specs.laws.Ratio.{above-one, ≼-trans, ⊕-upper, recip-anti, above-mono, ⊖-anti}
 
@@ -72,7 +72,7 @@ inside-wider (some A) w h = record { above = ⊑-trans (w .above) (h .above); be
 -- the operations over all pairs of ends
 pub pairs-inside : {op : Frac → Frac → Frac} → Monotone op → (x y i j : Option Bracket) → Meets x x → Meets y y
     → Inside x i → Inside y j → Inside (lift (overPairs op) x y) (lift (overPairs op) i j)
-unfolding lift
+unfolding lift _>>_
 pairs-inside M x y none j v w h k = tt
 pairs-inside M x y (some I) none v w h k = tt
 pairs-inside M none y (some I) (some J) v w h k = h
@@ -92,43 +92,37 @@ then-inside f c (some A) (some I) w h = c A I w h
 -- ln
 
 pub ln-lower-end : (s t : Frac) (h : Positive s) (k : Positive t) → s ⊑ t → (n : ℕ) → lnLowerAt s h n ⊑ lnLowerAt t k n
-unfolding lnLowerAt lnLowerBy
-ln-lower-end s t h k l n = go (decF oneF s) (decF oneF t)
-  where
-    go : (d : Dec (oneF ⊑ s)) (e : Dec (oneF ⊑ t)) → lnLowerBy s h d n ⊑ lnLowerBy t k e n
-    go (yes i) (yes j) = ofRatio-mono (ln-lower-mono _ _ (one-magnitude i) (magnitude-mono l) n)
-    go (yes i) (no j) = absurd (j (⊑-trans i l))
-    go (no i) (yes j) = neg-below _ _
-    go (no i) (no j) =
-        neg-anti (ofRatio-mono
-        (ln-upper-mono _ _ (one-recip t (magnitude-above t k) j) (one-recip s (magnitude-above s h) i)
-        (recip-anti (magnitude-above s h) (magnitude-above t k) (magnitude-mono l)) n))
+unfolding lnLowerAt
+ln-lower-end s t h k l n =
+    decided₂ _⊑_ (decF oneF s) (decF oneF t)
+    (λ i j. ofRatio-mono (ln-lower-mono _ _ (one-magnitude i) (magnitude-mono l) n))
+    (λ i j. absurd (j (⊑-trans i l)))
+    (λ i j. neg-below _ _)
+    λ i j.
+    neg-anti (ofRatio-mono
+    (ln-upper-mono _ _ (one-recip t (magnitude-above t k) j) (one-recip s (magnitude-above s h) i)
+    (recip-anti (magnitude-above s h) (magnitude-above t k) (magnitude-mono l)) n))
 
 pub ln-upper-end : (s t : Frac) (h : Positive s) (k : Positive t) → s ⊑ t → (n : ℕ) → lnUpperAt s h n ⊑ lnUpperAt t k n
-unfolding lnUpperAt lnUpperBy
-ln-upper-end s t h k l n = go (decF oneF s) (decF oneF t)
-  where
-    go : (d : Dec (oneF ⊑ s)) (e : Dec (oneF ⊑ t)) → lnUpperBy s h d n ⊑ lnUpperBy t k e n
-    go (yes i) (yes j) = ofRatio-mono (ln-upper-mono _ _ (one-magnitude i) (one-magnitude j) (magnitude-mono l) n)
-    go (yes i) (no j) = absurd (j (⊑-trans i l))
-    go (no i) (yes j) = neg-below _ _
-    go (no i) (no j) =
-        neg-anti (ofRatio-mono
-        (ln-lower-mono _ _ (one-recip t (magnitude-above t k) j)
-        (recip-anti (magnitude-above s h) (magnitude-above t k) (magnitude-mono l)) n))
+unfolding lnUpperAt
+ln-upper-end s t h k l n =
+    decided₂ _⊑_ (decF oneF s) (decF oneF t)
+    (λ i j. ofRatio-mono (ln-upper-mono _ _ (one-magnitude i) (one-magnitude j) (magnitude-mono l) n))
+    (λ i j. absurd (j (⊑-trans i l)))
+    (λ i j. neg-below _ _)
+    λ i j.
+    neg-anti (ofRatio-mono
+    (ln-lower-mono _ _ (one-recip t (magnitude-above t k) j)
+    (recip-anti (magnitude-above s h) (magnitude-above t k) (magnitude-mono l)) n))
 
 pub ln-isotone : (n : ℕ) → Isotone (lnB n)
-unfolding lnB lnIf
-ln-isotone n A I w h = go (decPositive (A .lo)) (decPositive (A .hi)) (decPositive (I .lo)) (decPositive (I .hi))
-  where
-    go : (a : Dec (Positive (A .lo))) (b : Dec (Positive (A .hi))) (c : Dec (Positive (I .lo))) (d : Dec (Positive (I .hi)))
-        → Inside (lnIf n A a b) (lnIf n I c d)
-    go (yes a) (yes b) (yes c) (yes d) =
-        record { above = ln-lower-end (I .lo) (A .lo) c a (h .above) n; below = ln-upper-end (A .hi) (I .hi) b d (h .below) n }
-    go (yes a) (no b) (yes c) (yes d) = b (positive-mono a w)
-    go (no a) b (yes c) (yes d) = a (positive-mono c (h .above))
-    go a b (yes c) (no d) = tt
-    go a b (no c) d = tt
+unfolding lnB
+ln-isotone n A I w h =
+    decided₂ Inside (decPositives (A .lo) (A .hi)) (decPositives (I .lo) (I .hi))
+    (λ a c. record { above = ln-lower-end (I .lo) (A .lo) (c .0) (a .0) (h .above) n; below = ln-upper-end (A .hi) (I .hi) (a .1) (c .1) (h .below) n })
+    (λ a c. tt)
+    (λ a c. let p = positive-mono (c .0) (h .above) in a (p, positive-mono p w))
+    (λ a c. tt)
 
 -- e^, for N ≥ 1
 
@@ -152,77 +146,73 @@ pub one-below-lower : (y : Ratio) (k : ℕ) → whole 1 ≼ expLower y (suc k)
 one-below-lower y zero = first-term y
 one-below-lower y (suc k) = grow y k (one-below-lower y k)
 
+-- the same of fractions from 0 up
+abbrev pub AtMostOf : Option Ratio → Option Ratio → Type 0
+AtMostOf x y = AtMost (signed x) (signed y)
+
+abbrev pub AtLeastOf : Option Ratio → Option Ratio → Type 0
+AtLeastOf x y = AtLeast (signed x) (signed y)
+
 -- 0 ≤ s ≤ t
-upper-upper : {x y : Ratio} → x ≼ y → (n : ℕ) (d : Dec (Above0 (whole (suc n) ⊖ x))) (e : Dec (Above0 (whole (suc n) ⊖ y)))
-    → AtLeast (signed (expUpperIf y n e)) (signed (expUpperIf x n d))
-unfolding expUpperIf signed
-upper-upper l n (yes h) (yes k) = ofRatio-mono (exp-upper-mono l n h k)
-upper-upper l n (no h) (yes k) = h (above-mono k (⊖-anti (whole (suc n)) l k))
-upper-upper l n d (no k) = tt
+upper-upper : {x y : Ratio} → x ≼ y → (n : ℕ) → AtLeastOf (expUpperOf y n) (expUpperOf x n)
+unfolding expUpperOf
+upper-upper l n =
+    decided₂ AtLeastOf (decAbove0 _) (decAbove0 _)
+    (λ k h. ofRatio-mono (exp-upper-mono l n h k)) (λ k h. h (above-mono k (⊖-anti (whole (suc n)) l k))) (λ k h. tt) (λ k h. tt)
 
 -- s < 0 ≤ t
-recip-lower : (x y : Ratio) (d : Dec (Above0 x)) → whole 1 ≼ x → whole 1 ≼ y → AtMost (signed (oneOverIf x d)) (some (ofRatio y))
-unfolding oneOverIf signed
-recip-lower x y (yes h) l k = ofRatio-mono (≼-trans (recip-below-one x h l) k)
-recip-lower x y (no h) l k = tt
+recip-lower : (x y : Ratio) → whole 1 ≼ x → whole 1 ≼ y → AtMostOf (oneOverOf (some x)) (some y)
+unfolding oneOverOf
+recip-lower x y l k = decided (λ o. AtMostOf o (some y)) (decAbove0 x) (λ h. ofRatio-mono (≼-trans (recip-below-one x h l) k)) (λ h. tt)
 
-upper-lower : (x y : Ratio) (n : ℕ) (d : Dec (Above0 (whole (suc n) ⊖ x))) → whole 1 ≼ y → AtMost (signed (oneOverOf (expUpperIf x n d))) (some (ofRatio y))
-unfolding expUpperIf oneOverOf signed
-upper-lower x y n (yes h) k = recip-lower (expUpper x n h) y (decAbove0 (expUpper x n h)) (one-below-exp x n h) k
-upper-lower x y n (no h) k = tt
+upper-lower : (x y : Ratio) (n : ℕ) → whole 1 ≼ y → AtMostOf (oneOverOf (expUpperOf x n)) (some y)
+unfolding expUpperOf oneOverOf
+upper-lower x y n k = decided (λ o. AtMostOf (oneOverOf o) (some y)) (decAbove0 _) (λ h. recip-lower (expUpper x n h) y (one-below-exp x n h) k) (λ h. tt)
 
-upper-recip : (x y : Ratio) (d : Dec (Above0 x)) (n : ℕ) (e : Dec (Above0 (whole (suc n) ⊖ y))) → whole 1 ≼ x
-    → AtLeast (signed (expUpperIf y n e)) (signed (oneOverIf x d))
-unfolding expUpperIf oneOverIf signed
-upper-recip x y (yes h) n (yes k) l = ofRatio-mono (≼-trans (recip-below-one x h l) (one-below-exp y n k))
-upper-recip x y (no h) n (yes k) l = h (above-one l)
-upper-recip x y d n (no k) l = tt
+upper-recip : (x y : Ratio) (n : ℕ) → whole 1 ≼ x → AtLeastOf (expUpperOf y n) (oneOverOf (some x))
+unfolding expUpperOf oneOverOf
+upper-recip x y n l =
+    decided₂ AtLeastOf (decAbove0 _) (decAbove0 x)
+    (λ k h. ofRatio-mono (≼-trans (recip-below-one x h l) (one-below-exp y n k))) (λ k h. h (above-one l)) (λ k h. tt) (λ k h. tt)
 
 -- s ≤ t < 0
-pub recip-least : (x y : Ratio) (d : Dec (Above0 x)) (e : Dec (Above0 y)) → Above0 y → y ≼ x → AtMost (signed (oneOverIf x d)) (signed (oneOverIf y e))
-unfolding oneOverIf signed
-recip-least x y (yes h) (yes k) p l = ofRatio-mono (recip-anti k h l)
-recip-least x y (yes h) (no k) p l = k p
-recip-least x y (no h) e p l = tt
+pub recip-least : (x y : Ratio) → Above0 y → y ≼ x → AtMostOf (oneOverOf (some x)) (oneOverOf (some y))
+unfolding oneOverOf
+recip-least x y p l = decided₂ AtMostOf (decAbove0 x) (decAbove0 y) (λ h k. ofRatio-mono (recip-anti k h l)) (λ h k. k p) (λ h k. tt) (λ h k. tt)
 
-pub recip-most : (x y : Ratio) (d : Dec (Above0 x)) (e : Dec (Above0 y)) → Above0 x → y ≼ x → AtLeast (signed (oneOverIf y e)) (signed (oneOverIf x d))
-unfolding oneOverIf signed
-recip-most x y (yes h) (yes k) p l = ofRatio-mono (recip-anti k h l)
-recip-most x y (no h) (yes k) p l = h p
-recip-most x y d (no k) p l = tt
+pub recip-most : (x y : Ratio) → Above0 x → y ≼ x → AtLeastOf (oneOverOf (some y)) (oneOverOf (some x))
+unfolding oneOverOf
+recip-most x y p l = decided₂ AtLeastOf (decAbove0 y) (decAbove0 x) (λ k h. ofRatio-mono (recip-anti k h l)) (λ k h. h p) (λ k h. tt) (λ k h. tt)
 
-recip-uppers : {x y : Ratio} → y ≼ x → (n : ℕ) (d : Dec (Above0 (whole (suc n) ⊖ x))) (e : Dec (Above0 (whole (suc n) ⊖ y)))
-    → AtMost (signed (oneOverOf (expUpperIf x n d))) (signed (oneOverOf (expUpperIf y n e)))
-unfolding expUpperIf oneOverOf signed
-recip-uppers {x} {y} l n (yes h) (yes k) =
-    recip-least (expUpper x n h) (expUpper y n k) (decAbove0 _) (decAbove0 _) (above-one (one-below-exp y n k)) (exp-upper-mono l n k h)
-recip-uppers l n (yes h) (no k) = absurd (k (above-mono h (⊖-anti (whole (suc n)) l h)))
-recip-uppers l n (no h) e = tt
+recip-uppers : {x y : Ratio} → y ≼ x → (n : ℕ) → AtMostOf (oneOverOf (expUpperOf x n)) (oneOverOf (expUpperOf y n))
+unfolding expUpperOf oneOverOf
+recip-uppers {x} {y} l n =
+    decided₂ (λ a b. AtMostOf (oneOverOf a) (oneOverOf b)) (decAbove0 _) (decAbove0 _)
+    (λ h k. recip-least (expUpper x n h) (expUpper y n k) (above-one (one-below-exp y n k)) (exp-upper-mono l n k h))
+    (λ h k. absurd (k (above-mono h (⊖-anti (whole (suc n)) l h))))
+    (λ h k. tt)
+    (λ h k. tt)
 
 pub exp-lower-end : (s t : Frac) → s ⊑ t → (k : ℕ) → AtMost (expLowerAt s (suc k)) (expLowerAt t (suc k))
-unfolding expLowerAt expLowerBy expUpperOf
-exp-lower-end s t l k = go (decF zeroF s) (decF zeroF t)
-  where
-    go : (d : Dec (zeroF ⊑ s)) (e : Dec (zeroF ⊑ t)) → AtMost (expLowerBy s d (suc k)) (expLowerBy t e (suc k))
-    go (yes i) (yes j) = ofRatio-mono (exp-lower-mono (magnitude-mono l) (suc k))
-    go (yes i) (no j) = absurd (j (⊑-trans i l))
-    go (no i) (yes j) = upper-lower _ _ (suc k) (decAbove0 _) (one-below-lower (magnitude t) k)
-    go (no i) (no j) = recip-uppers (magnitude-mono (neg-anti l)) (suc k) (decAbove0 _) (decAbove0 _)
+unfolding expLowerAt
+exp-lower-end s t l k =
+    decided₂ AtMostOf (decF zeroF s) (decF zeroF t)
+    (λ i j. ofRatio-mono (exp-lower-mono (magnitude-mono l) (suc k)))
+    (λ i j. absurd (j (⊑-trans i l)))
+    (λ i j. upper-lower _ _ (suc k) (one-below-lower (magnitude t) k))
+    (λ i j. recip-uppers (magnitude-mono (neg-anti l)) (suc k))
 
 pub exp-upper-end : (s t : Frac) → s ⊑ t → (k : ℕ) → AtLeast (expUpperAt t (suc k)) (expUpperAt s (suc k))
-unfolding expUpperAt expUpperBy expUpperOf oneOverOf
-exp-upper-end s t l k = go (decF zeroF s) (decF zeroF t)
-  where
-    go : (d : Dec (zeroF ⊑ s)) (e : Dec (zeroF ⊑ t)) → AtLeast (expUpperBy t e (suc k)) (expUpperBy s d (suc k))
-    go (yes i) (yes j) = upper-upper (magnitude-mono l) (suc k) (decAbove0 _) (decAbove0 _)
-    go (yes i) (no j) = absurd (j (⊑-trans i l))
-    go (no i) (yes j) = upper-recip _ _ (decAbove0 _) (suc k) (decAbove0 _) (one-below-lower (magnitude (neg s)) k)
-    go (no i) (no j) =
-        recip-most _ _ (decAbove0 _) (decAbove0 _) (above-one (one-below-lower (magnitude (neg s)) k))
-        (exp-lower-mono (magnitude-mono (neg-anti l)) (suc k))
+unfolding expUpperAt
+exp-upper-end s t l k =
+    decided₂ AtLeastOf (decF zeroF t) (decF zeroF s)
+    (λ j i. upper-upper (magnitude-mono l) (suc k))
+    (λ j i. upper-recip _ _ (suc k) (one-below-lower (magnitude (neg s)) k))
+    (λ j i. absurd (j (⊑-trans i l)))
+    λ j i. recip-most _ _ (above-one (one-below-lower (magnitude (neg s)) k)) (exp-lower-mono (magnitude-mono (neg-anti l)) (suc k))
 
 pub ends-inside : (a b c d : Option Frac) → AtMost c a → AtLeast d b → Inside (ends a b) (ends c d)
-unfolding ends
+unfolding lift _>>_
 ends-inside a b none d h k = tt
 ends-inside a b (some c) none h k = tt
 ends-inside none b (some c) (some d) h k = h

@@ -2,14 +2,14 @@
 -- `ln-below` and `exp-below`. Assumes nothing.
 use Prim.Native.Nat.{ℕ, suc, _+_, _*_, _-_, _≤_}
 use mathlib.Core.Path.{_≡_, ap}
-use mathlib.Core.Option.{Option, none, some}
+use mathlib.Core.Option.{Option, none, some, Option·map}
 use native.Mathlib.Nat.{mul-le-mul-right}
 use native.Mathlib.Decide.{decLe}
 use native.Mathlib.Omega.{arith}
 use Rattle.exact.specs.Fraction.{_⊞_, Ratio, _≼_, Above0, whole, _⊕_, _⊖_, recip, power, sum, _⊗_, Frac, _⊑_, Positive, zeroF, neg, ofRatio, magnitude, oneF}
 use Rattle.exact.specs.Series.{factorial, expLower, expUpper, expTerm}
-use Rattle.exact.specs.Ends.{expLowerAt, expLowerBy, expUpperAt, expUpperBy, expUpperIf, expUpperOf, lnLowerAt, lnLowerBy, lnUpperAt, lnUpperBy, oneOverIf, oneOverOf, signed}
-use Rattle.exact.specs.laws.Decide.{decF, decAbove0}
+use Rattle.exact.specs.Ends.{expLowerAt, expUpperAt, expUpperOf, lnLowerAt, lnUpperAt, oneOverOf}
+use Rattle.exact.specs.laws.Decide.{decF, decAbove0, decided, decided₂}
 use Rattle.exact.specs.laws.Divisors.{magnitude-above, one-magnitude, one-recip}
 use Rattle.exact.specs.laws.Exp.{exp-lower-upper, exp-lower-mono}
 use Rattle.exact.specs.laws.Frac.{⊑-trans, neg-anti}
@@ -23,6 +23,9 @@ Below (some a) none = Unit {0}
 Below (some a) (some b) = a ⊑ b
 
 -- Fractions as signed fractions
+
+abbrev pub signed : Option Ratio → Option Frac
+signed x = Option·map ofRatio x
 
 pub ofRatio-mono : {x y : Ratio} → x ≼ y → ofRatio x ⊑ ofRatio y
 unfolding ofRatio
@@ -58,19 +61,17 @@ positive-zero h = omega arith
 -- ln
 
 pub ln-below : (s t : Frac) (h : Positive s) (k : Positive t) → s ⊑ t → (m n : ℕ) → lnLowerAt s h m ⊑ lnUpperAt t k n
-unfolding lnLowerAt lnUpperAt lnLowerBy lnUpperBy
-ln-below s t h k l m n = go (decF oneF s) (decF oneF t)
-  where
-    go : (d : Dec (oneF ⊑ s)) (e : Dec (oneF ⊑ t)) → lnLowerBy s h d m ⊑ lnUpperBy t k e n
-    go (yes i) (yes j) =
-        ofRatio-mono (≼-trans (ln-lower-mono _ _ (one-magnitude i) (magnitude-mono l) m) (ln-lower-upper (magnitude t) (one-magnitude j) m n))
-    go (yes i) (no j) = absurd (j (⊑-trans i l))
-    go (no i) (yes j) = neg-below _ _
-    go (no i) (no j) =
-        neg-anti (ofRatio-mono
-        (≼-trans
-        (ln-lower-mono _ _ (one-recip t (magnitude-above t k) j) (recip-anti (magnitude-above s h) (magnitude-above t k) (magnitude-mono l)) n)
-        (ln-lower-upper _ (one-recip s (magnitude-above s h) i) n m)))
+unfolding lnLowerAt lnUpperAt
+ln-below s t h k l m n =
+    decided₂ _⊑_ (decF oneF s) (decF oneF t)
+    (λ i j. ofRatio-mono (≼-trans (ln-lower-mono _ _ (one-magnitude i) (magnitude-mono l) m) (ln-lower-upper (magnitude t) (one-magnitude j) m n)))
+    (λ i j. absurd (j (⊑-trans i l)))
+    (λ i j. neg-below _ _)
+    λ i j.
+    neg-anti (ofRatio-mono
+    (≼-trans
+    (ln-lower-mono _ _ (one-recip t (magnitude-above t k) j) (recip-anti (magnitude-above s h) (magnitude-above t k) (magnitude-mono l)) n)
+    (ln-lower-upper _ (one-recip s (magnitude-above s h) i) n m)))
 
 -- e^
 
@@ -85,48 +86,43 @@ pub recip-below-one : (x : Ratio) (h : Above0 x) → whole 1 ≼ x → recip x h
 unfolding whole recip
 recip-below-one x h l = omega arith
 
+-- both ends come out of decisions: as fractions from 0 up, the first is at most the second
+abbrev BelowOf : Option Ratio → Option Ratio → Type 0
+BelowOf x y = Below (signed x) (signed y)
+
 -- 0 ≤ s ≤ t
-above-above : {x y : Ratio} → x ≼ y → (m n : ℕ) (d : Dec (Above0 (whole (suc n) ⊖ y)))
-    → Below (some (ofRatio (expLower x m))) (signed (expUpperIf y n d))
-unfolding expUpperIf signed
-above-above l m n (yes h) = ofRatio-mono (≼-trans (exp-lower-mono l m) (exp-lower-upper _ m n h))
-above-above l m n (no h) = tt
+above-above : {x y : Ratio} → x ≼ y → (m n : ℕ) → Below (some (ofRatio (expLower x m))) (signed (expUpperOf y n))
+unfolding expUpperOf
+above-above {x} l m n =
+    decided (λ o. BelowOf (some (expLower x m)) o) (decAbove0 _) (λ h. ofRatio-mono (≼-trans (exp-lower-mono l m) (exp-lower-upper _ m n h))) (λ h. tt)
 
 -- s < 0 ≤ t: 1 lies between
-recip-upper : (x y : Ratio) (d : Dec (Above0 x)) (n : ℕ) (e : Dec (Above0 (whole (suc n) ⊖ y))) → whole 1 ≼ x
-    → Below (signed (oneOverIf x d)) (signed (expUpperIf y n e))
-unfolding expUpperIf oneOverIf signed
-recip-upper x y (yes h) n (yes k) l = ofRatio-mono (≼-trans (recip-below-one x h l) (one-below-exp y n k))
-recip-upper x y (yes h) n (no k) l = tt
-recip-upper x y (no h) n e l = tt
+recip-upper : (x y : Ratio) (n : ℕ) → whole 1 ≼ x → BelowOf (oneOverOf (some x)) (expUpperOf y n)
+unfolding expUpperOf oneOverOf
+recip-upper x y n l =
+    decided₂ BelowOf (decAbove0 x) (decAbove0 _) (λ h k. ofRatio-mono (≼-trans (recip-below-one x h l) (one-below-exp y n k))) (λ h k. tt) (λ h k. tt) (λ h k. tt)
 
-below-above : (x y : Ratio) (m n : ℕ) (d : Dec (Above0 (whole (suc m) ⊖ x))) (e : Dec (Above0 (whole (suc n) ⊖ y)))
-    → Below (signed (oneOverOf (expUpperIf x m d))) (signed (expUpperIf y n e))
-unfolding expUpperIf oneOverOf signed
-below-above x y m n (yes h) e = recip-upper (expUpper x m h) y (decAbove0 (expUpper x m h)) n e (one-below-exp x m h)
-below-above x y m n (no h) e = tt
+below-above : (x y : Ratio) (m n : ℕ) → BelowOf (oneOverOf (expUpperOf x m)) (expUpperOf y n)
+unfolding expUpperOf oneOverOf
+below-above x y m n =
+    decided (λ o. BelowOf (oneOverOf o) (expUpperOf y n)) (decAbove0 _) (λ h. recip-upper (expUpper x m h) y n (one-below-exp x m h)) (λ h. tt)
 
 -- s ≤ t < 0
-recip-recip : (x y : Ratio) (d : Dec (Above0 x)) (e : Dec (Above0 y)) → y ≼ x → Below (signed (oneOverIf x d)) (signed (oneOverIf y e))
-unfolding oneOverIf signed
-recip-recip x y (yes h) (yes k) l = ofRatio-mono (recip-anti k h l)
-recip-recip x y (yes h) (no k) l = tt
-recip-recip x y (no h) e l = tt
+recip-recip : (x y : Ratio) → y ≼ x → BelowOf (oneOverOf (some x)) (oneOverOf (some y))
+unfolding oneOverOf
+recip-recip x y l = decided₂ BelowOf (decAbove0 x) (decAbove0 y) (λ h k. ofRatio-mono (recip-anti k h l)) (λ h k. tt) (λ h k. tt) (λ h k. tt)
 
-below-below : {x y : Ratio} → y ≼ x → (m n : ℕ) (d : Dec (Above0 (whole (suc m) ⊖ x)))
-    → Below (signed (oneOverOf (expUpperIf x m d))) (signed (oneOverOf (some (expLower y n))))
-unfolding expUpperIf oneOverOf signed
-below-below {x} {y} l m n (yes h) =
-    recip-recip (expUpper x m h) (expLower y n) (decAbove0 (expUpper x m h)) (decAbove0 (expLower y n))
-    (≼-trans (exp-lower-mono l n) (exp-lower-upper x n m h))
-below-below l m n (no h) = tt
+below-below : {x y : Ratio} → y ≼ x → (m n : ℕ) → BelowOf (oneOverOf (expUpperOf x m)) (oneOverOf (some (expLower y n)))
+unfolding expUpperOf oneOverOf
+below-below {x} {y} l m n =
+    decided (λ o. BelowOf (oneOverOf o) (oneOverOf (some (expLower y n)))) (decAbove0 _)
+    (λ h. recip-recip (expUpper x m h) (expLower y n) (≼-trans (exp-lower-mono l n) (exp-lower-upper x n m h))) (λ h. tt)
 
 pub exp-below : (s t : Frac) → s ⊑ t → (m n : ℕ) → Below (expLowerAt s m) (expUpperAt t n)
-unfolding expLowerAt expUpperAt expLowerBy expUpperBy expUpperOf
-exp-below s t l m n = go (decF zeroF s) (decF zeroF t)
-  where
-    go : (d : Dec (zeroF ⊑ s)) (e : Dec (zeroF ⊑ t)) → Below (expLowerBy s d m) (expUpperBy t e n)
-    go (yes i) (yes j) = above-above (magnitude-mono l) m n (decAbove0 _)
-    go (yes i) (no j) = absurd (j (⊑-trans i l))
-    go (no i) (yes j) = below-above _ _ m n (decAbove0 _) (decAbove0 _)
-    go (no i) (no j) = below-below (magnitude-mono (neg-anti l)) m n (decAbove0 _)
+unfolding expLowerAt expUpperAt
+exp-below s t l m n =
+    decided₂ BelowOf (decF zeroF s) (decF zeroF t)
+    (λ i j. above-above (magnitude-mono l) m n)
+    (λ i j. absurd (j (⊑-trans i l)))
+    (λ i j. below-above _ _ m n)
+    (λ i j. below-below (magnitude-mono (neg-anti l)) m n)

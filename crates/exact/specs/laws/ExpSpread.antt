@@ -6,10 +6,10 @@ use mathlib.Core.Option.{Option, none, some}
 use native.Mathlib.Omega.{arith}
 use Rattle.exact.specs.Fraction.{Ratio, _≼_, Above0, whole, _⊕_, _⊗_, _⊖_, recip, power, Frac, _⊑_, zeroF, _⊞_, _⊠_, neg, ofRatio, magnitude}
 use Rattle.exact.specs.Series.{expLower, expUpper}
-use Rattle.exact.specs.Ends.{expUpperIf, expUpperOf, oneOverIf, oneOverOf, signed, expLowerBy, expUpperBy, expLowerAt, expUpperAt}
+use Rattle.exact.specs.Ends.{expUpperOf, oneOverOf, expLowerAt, expUpperAt}
 use Rattle.exact.specs.laws.Addition.{product-below-sum}
-use Rattle.exact.specs.laws.Decide.{decF, decAbove0}
-use Rattle.exact.specs.laws.EndsMeet.{above-moves, magnitude-mono}
+use Rattle.exact.specs.laws.Decide.{decF, decAbove0, decided, decided₂}
+use Rattle.exact.specs.laws.EndsMeet.{signed, above-moves, magnitude-mono}
 use Rattle.exact.specs.laws.Frac.{⊑-trans, ⊑-total, neg-anti}
 use Rattle.exact.specs.laws.Ratio.{shift, unit-left, unit-right, _≈_, ≼-refl, ≼-trans, to≼, zero-≼, ⊗-mono, ⊕-upper}
 use Rattle.exact.specs.laws.Reduction.{most-zero, upper-near}
@@ -75,40 +75,43 @@ recip-one : (a b z w : Ratio) (q : Above0 b) → a ⊗ b ⊗ z ≼ w → a ⊗ z
 unfolding recip _⊗_
 recip-one a b z w q h = omega (arith, h .cross)
 
-near-recips : (a b z w : Ratio) (d : Dec (Above0 a)) (e : Dec (Above0 b)) → b ⊗ z ≼ a ⊗ w → Near (signed (oneOverIf a d)) (signed (oneOverIf b e)) z w
-unfolding oneOverIf signed
-near-recips a b z w (yes p) (yes q) h = product-signed _ _ z w (recip-both a b z w p q h)
-near-recips a b z w (yes p) (no q) h = tt
-near-recips a b z w (no p) e h = tt
+abbrev NearOf : Option Ratio → Option Ratio → Ratio → Ratio → Type 0
+NearOf u l z w = Near (signed u) (signed l) z w
 
-near-recip : (a b z w : Ratio) (e : Dec (Above0 b)) → a ⊗ b ⊗ z ≼ w → Near (some (ofRatio a)) (signed (oneOverIf b e)) z w
-unfolding oneOverIf signed
-near-recip a b z w (yes q) h = product-signed _ _ z w (recip-one a b z w q h)
-near-recip a b z w (no q) h = tt
+module _ (z w : Ratio) where
+  near-recips : (a b : Ratio) → b ⊗ z ≼ a ⊗ w → NearOf (oneOverOf (some a)) (oneOverOf (some b)) z w
+  unfolding oneOverOf
+  near-recips a b h =
+      decided₂ (λ u l. NearOf u l z w) (decAbove0 a) (decAbove0 b)
+      (λ p q. product-signed _ _ z w (recip-both a b z w p q h)) (λ p q. tt) (λ p q. tt) (λ p q. tt)
 
-near-above : (x y z w : Ratio) (n : ℕ) (e : Dec (Above0 (whole (suc n) ⊖ y))) → ((g : Above0 (whole (suc n) ⊖ y)) → expUpper y n g ⊗ z ≼ expLower x n ⊗ w)
-    → Near (signed (expUpperIf y n e)) (some (ofRatio (expLower x n))) z w
-unfolding expUpperIf signed
-near-above x y z w n (yes g) h = product-signed _ _ z w (h g)
-near-above x y z w n (no g) h = tt
+  near-recip : (a b : Ratio) → a ⊗ b ⊗ z ≼ w → NearOf (some a) (oneOverOf (some b)) z w
+  unfolding oneOverOf
+  near-recip a b h = decided (λ l. NearOf (some a) l z w) (decAbove0 b) (λ q. product-signed _ _ z w (recip-one a b z w q h)) (λ q. tt)
 
-near-below : (x y z w : Ratio) (n : ℕ) (e : Dec (Above0 (whole (suc n) ⊖ y))) → ((g : Above0 (whole (suc n) ⊖ y)) → expUpper y n g ⊗ z ≼ expLower x n ⊗ w)
-    → Near (signed (oneOverOf (some (expLower x n)))) (signed (oneOverOf (expUpperIf y n e))) z w
-unfolding expUpperIf oneOverOf signed
-near-below x y z w n (yes g) h = near-recips (expLower x n) (expUpper y n g) z w (decAbove0 _) (decAbove0 _) (h g)
-near-below x y z w n (no g) h = nothing (oneOverIf (expLower x n) (decAbove0 _))
-  where
-    nothing : (o : Option Ratio) → Near (signed o) none z w
-    nothing none = tt
-    nothing (some a) = tt
+  near-above : (x y : Ratio) (n : ℕ) → ((g : Above0 (whole (suc n) ⊖ y)) → expUpper y n g ⊗ z ≼ expLower x n ⊗ w)
+      → NearOf (expUpperOf y n) (some (expLower x n)) z w
+  unfolding expUpperOf
+  near-above x y n h = decided (λ u. NearOf u (some (expLower x n)) z w) (decAbove0 _) (λ g. product-signed _ _ z w (h g)) (λ g. tt)
 
-near-across : (x y z w : Ratio) (n : ℕ) (d : Dec (Above0 (whole (suc n) ⊖ x))) (e : Dec (Above0 (whole (suc n) ⊖ y)))
-    → ((f : Above0 (whole (suc n) ⊖ x)) (g : Above0 (whole (suc n) ⊖ y)) → expUpper y n g ⊗ expUpper x n f ⊗ z ≼ w)
-    → Near (signed (expUpperIf y n e)) (signed (oneOverOf (expUpperIf x n d))) z w
-unfolding expUpperIf oneOverOf signed
-near-across x y z w n (yes f) (yes g) h = near-recip (expUpper y n g) (expUpper x n f) z w (decAbove0 _) (h f g)
-near-across x y z w n (no f) (yes g) h = tt
-near-across x y z w n d (no g) h = tt
+  no-lower : (u : Option Ratio) → NearOf u none z w
+  no-lower none = tt
+  no-lower (some a) = tt
+
+  near-below : (x y : Ratio) (n : ℕ) → ((g : Above0 (whole (suc n) ⊖ y)) → expUpper y n g ⊗ z ≼ expLower x n ⊗ w)
+      → NearOf (oneOverOf (some (expLower x n))) (oneOverOf (expUpperOf y n)) z w
+  unfolding expUpperOf oneOverOf
+  near-below x y n h =
+      decided (λ l. NearOf (oneOverOf (some (expLower x n))) (oneOverOf l) z w) (decAbove0 _)
+      (λ g. near-recips (expLower x n) (expUpper y n g) (h g)) (λ g. no-lower (oneOverOf (some (expLower x n))))
+
+  near-across : (x y : Ratio) (n : ℕ)
+      → ((f : Above0 (whole (suc n) ⊖ x)) (g : Above0 (whole (suc n) ⊖ y)) → expUpper y n g ⊗ expUpper x n f ⊗ z ≼ w)
+      → NearOf (expUpperOf y n) (oneOverOf (expUpperOf x n)) z w
+  unfolding expUpperOf oneOverOf
+  near-across x y n h =
+      decided₂ (λ u l. NearOf u (oneOverOf l) z w) (decAbove0 _) (decAbove0 _)
+      (λ g f. near-recip (expUpper y n g) (expUpper x n f) (h f g)) (λ g f. tt) (λ g f. tt) (λ g f. tt)
 
 -- the distance in magnitudes
 
@@ -129,24 +132,21 @@ neg-zero h = omega arith
 
 pub exp-spread-signed : (s t : Frac) (δ : Ratio) → s ⊑ t → t ⊑ s ⊞ ofRatio δ → (c k n : ℕ) → magnitude (neg s) ≼ whole c → magnitude t ≼ whole c
     → suc (2 * c + k) ≤ n → Near (expUpperAt t n) (expLowerAt s n) (whole 1 ⊖ δ) (slack k ⊗ slack k)
-unfolding expUpperAt expLowerAt expUpperBy expLowerBy expUpperOf
-exp-spread-signed s t δ l m c k n a b i = go (decF zeroF s) (decF zeroF t)
-  where
-    go : (d : Dec (zeroF ⊑ s)) (e : Dec (zeroF ⊑ t)) → Near (expUpperBy t e n) (expLowerBy s d n) (whole 1 ⊖ δ) (slack k ⊗ slack k)
-    go (yes p) (yes q) =
-        near-above (magnitude s) (magnitude t) _ _ n (decAbove0 _)
-        λ g. ≼-trans (spread-above δ c k n i _ _ (magnitude-mono l) (above-moves s t δ p q m) b g) (slack-twice _ k)
-    go (yes p) (no q) = absurd (q (⊑-trans p l))
-    go (no p) (yes q) =
-        near-across (magnitude (neg s)) (magnitude t) _ _ n (decAbove0 _) (decAbove0 _)
-        (spread-across δ c k n i _ _ (across-moves s t δ (⊑-total zeroF s p) q m) a b)
-    go (no p) (no q) =
-        near-below (magnitude (neg t)) (magnitude (neg s)) _ _ n (decAbove0 _)
-        λ g.
-        ≼-trans
-        (spread-above δ c k n i _ _ (magnitude-mono (neg-anti l))
-        (above-moves (neg t) (neg s) δ (neg-zero (⊑-total zeroF t q)) (neg-zero (⊑-total zeroF s p)) (neg-moves s t δ m)) a g)
-        (slack-twice _ k)
+unfolding expUpperAt expLowerAt
+exp-spread-signed s t δ l m c k n a b i =
+    decided₂ (λ y x. NearOf y x (whole 1 ⊖ δ) (slack k ⊗ slack k)) (decF zeroF t) (decF zeroF s)
+    (λ q p.
+    near-above _ _ (magnitude s) (magnitude t) n
+    λ g. ≼-trans (spread-above δ c k n i _ _ (magnitude-mono l) (above-moves s t δ p q m) b g) (slack-twice _ k))
+    (λ q p. near-across _ _ (magnitude (neg s)) (magnitude t) n (spread-across δ c k n i _ _ (across-moves s t δ (⊑-total zeroF s p) q m) a b))
+    (λ q p. absurd (q (⊑-trans p l)))
+    λ q p.
+    near-below _ _ (magnitude (neg t)) (magnitude (neg s)) n
+    λ g.
+    ≼-trans
+    (spread-above δ c k n i _ _ (magnitude-mono (neg-anti l))
+    (above-moves (neg t) (neg s) δ (neg-zero (⊑-total zeroF t q)) (neg-zero (⊑-total zeroF s p)) (neg-moves s t δ m)) a g)
+    (slack-twice _ k)
 
 -- the same with the two ends named
 pub exp-ends-near : (s t : Frac) (δ : Ratio) → s ⊑ t → t ⊑ s ⊞ ofRatio δ → (c k n : ℕ) → magnitude (neg s) ≼ whole c → magnitude t ≼ whole c

@@ -5,7 +5,8 @@ use Prim.Native.Nat.{ℕ, zero, suc, _+_, _*_, _/_, _≤_, _<_}
 use native.Mathlib.Nat.{mul-le-mul, mul-le-mul-right, le-of-mul-le-mul-right, div-mul-le-self, lt-div-mul-add}
 use native.Mathlib.Omega.{arith}
 use Rattle.exact.specs.Fraction.{Ratio, whole, _⊕_, _⊗_, power, sum}
-use Rattle.exact.specs.Series.{oneOver, even, odd, odd-pos, lnTerm}
+use Rattle.exact.specs.Series.{oneOver, even, odd, lnTerm}
+use Rattle.exact.specs.laws.Positive.{odd-pos}
 
 -- a/S ≤ x
 pub record Lower (S a : ℕ) (x : Ratio) : Type 0 where

@@ -8,7 +8,7 @@ use native.Mathlib.Decide.{decLe}
 use native.Mathlib.Omega.{arith}
 use Rattle.exact.specs.Fraction.{Frac, Positive, _⊑_, _⊞_, _⊟_, _⊠_, inverse, neg, zeroF}
 use Rattle.exact.specs.Bracket.{larger, smaller}
-use Rattle.exact.specs.laws.Decide.{decF}
+use Rattle.exact.specs.laws.Decide.{decF, decided}
 
 -- Order
 
@@ -109,19 +109,11 @@ inverse-anti {x} {y} h k l =
 
 smaller-case : (P : Frac → Type 0) (x y : Frac) → (x ⊑ y → P x) → (y ⊑ x → P y) → P (smaller x y)
 unfolding smaller
-smaller-case P x y f g = go (decF x y)
-  where
-    go : (d : Dec (x ⊑ y)) → P (elim d as (λ _. Frac) [ yes h ↦ x | no h ↦ y ])
-    go (yes h) = f h
-    go (no h) = g (⊑-total x y h)
+smaller-case P x y f g = decided P (decF x y) f (λ h. g (⊑-total x y h))
 
 larger-case : (P : Frac → Type 0) (x y : Frac) → (x ⊑ y → P y) → (y ⊑ x → P x) → P (larger x y)
 unfolding larger
-larger-case P x y f g = go (decF x y)
-  where
-    go : (d : Dec (x ⊑ y)) → P (elim d as (λ _. Frac) [ yes h ↦ y | no h ↦ x ])
-    go (yes h) = f h
-    go (no h) = g (⊑-total x y h)
+larger-case P x y f g = decided P (decF x y) f (λ h. g (⊑-total x y h))
 
 pub smaller-left : (x y : Frac) → smaller x y ⊑ x
 smaller-left x y = smaller-case (λ z. z ⊑ x) x y (λ h. ⊑-refl x) (λ h. h)

@@ -7,7 +7,7 @@ use native.Mathlib.Nat.{mul-pos, mul-le-mul-right, pow-succ'}
 use native.Mathlib.Decide.{decLe}
 use native.Mathlib.Omega.{arith}
 use Rattle.exact.specs.Fraction.{Ratio, _≼_, Above0, whole, _⊕_, _⊗_, _⊖_, recip, power, sum}
-use Rattle.exact.specs.Series.{factorial, expTerm, expLower, expUpper, oneOver, even, odd, odd-pos, lnTerm, lnTail, gap, seriesUpper, exponent, fraction, argument, two-pow-pos}
+use Rattle.exact.specs.Series.{factorial, expTerm, expLower, expUpper, oneOver, even, odd, lnTerm, lnTail, gap, seriesUpper, exponent, fraction, argument}
 use Rattle.exact.specs.Ends.{ln2Upper, lnUpper}
 use Rattle.exact.specs.laws.Addition.{product-below-sum}
 use Rattle.exact.specs.laws.Divisors.{gap-argument, fraction-above, gap-third}
@@ -17,6 +17,7 @@ use Rattle.exact.specs.laws.Ln.{argument-two, whole-mono}
 use Rattle.exact.specs.laws.LnSeries.{gap-anti, series-upper-mono}
 use Rattle.exact.specs.laws.LogBelow.{steps-to, one-below}
 use Rattle.exact.specs.laws.Octaves.{fraction-one}
+use Rattle.exact.specs.laws.Positive.{odd-pos, two-pow-pos}
 use Rattle.exact.specs.laws.Ratio.{exchange, _≈_, ≼-refl, ≼-trans, to≼, from≼, ⊕-mono, ⊕-assoc, ⊕-upper, ⊗-mono, distrib, recip-anti, power-mono, above-whole, above-one}
 use Rattle.exact.specs.laws.Reduction.{Most, most-upper, most-mono, Least, least-one, once-more, room, upper-near}
 use Rattle.exact.specs.laws.Width.{half}

@@ -2,12 +2,12 @@
 use Prim.Native.Nat.{ℕ}
 use mathlib.Core.Path.{_≡_, subst₂}
 use mathlib.Core.Option.{Option, none, some}
-use Rattle.exact.specs.Fraction.{Frac, _⊑_, Positive}
+use Rattle.exact.specs.Fraction.{Frac, _⊑_}
 use Rattle.exact.specs.Bracket.{larger, Bracket, _∈_, overPairs, Meet}
 use Rattle.exact.specs.Ends.{expLowerAt, expUpperAt}
-use Rattle.exact.specs.Formula.{Formula, _>>_, add, bracketAt, const, div, ends, exp, expB, least, lift, ln, lnB, lnIf, mul, sub, quotientB, quotientIf}
+use Rattle.exact.specs.Formula.{Formula, _>>_, add, bracketAt, const, div, exp, expB, least, lift, ln, lnB, mul, sub, quotientB}
 use Rattle.exact.specs.Exact.{AnyTwoMeet}
-use Rattle.exact.specs.laws.Decide.{decPositive}
+use Rattle.exact.specs.laws.Decide.{decPositives, decided₂}
 use Rattle.exact.specs.laws.EndsMeet.{Below, ln-below, exp-below}
 use Rattle.exact.specs.laws.Frac.{positive-mono, ⊑-refl, ⊑-trans, larger-left, larger-right, larger-lub}
 use Rattle.exact.specs.laws.Pairs.{quotients-hold, Monotone, pairs-hold, ⊞-monotone, ⊟-monotone, ⊠-monotone, smaller-monotone}
@@ -39,7 +39,7 @@ shared {A} {B} h = (
 
 pairs-meet : {op : Frac → Frac → Frac} → Monotone op → (x y u v : Option Bracket) → Meeting x y → Meeting u v
     → Meets (lift (overPairs op) x u) (lift (overPairs op) y v)
-unfolding lift
+unfolding lift _>>_
 pairs-meet M none y u v h k = tt
 pairs-meet M (some A) y none v h k = tt
 pairs-meet M (some A) none (some C) v h k = tt
@@ -67,39 +67,34 @@ then-meet f c m n (some A) (some B) h k = c m n A B h k
 -- the same for the quotient
 quotients-meet : (x y u v : Option Bracket) → Meeting x y → Meeting u v
     → Meets (x >> (λ A. u >> quotientB A)) (y >> (λ A. v >> quotientB A))
-unfolding _>>_ quotientB quotientIf
+unfolding _>>_ quotientB
 quotients-meet none y u v h k = tt
 quotients-meet (some A) y none v h k = tt
 quotients-meet (some A) none (some C) v h k = meets-none (quotientB A C)
 quotients-meet (some A) (some B) (some C) none h k = meets-none (quotientB A C)
-quotients-meet (some A) (some B) (some C) (some D) h k = go (decPositive (C .lo)) (decPositive (C .hi)) (decPositive (D .lo)) (decPositive (D .hi))
-  where
-    go : (a : Dec (Positive (C .lo))) (b : Dec (Positive (C .hi))) (c : Dec (Positive (D .lo))) (d : Dec (Positive (D .hi)))
-        → Meets (quotientIf A C a b) (quotientIf B D c d)
-    go (yes a) (yes b) (yes c) (yes d) =
-        let p = shared h in
-        let q = shared k in
-        let z = positive-mono a (q .1 .above) in
-        ⊑-trans (quotients-hold (p .1) (q .1) z a b .above) (quotients-hold (p .2) (q .2) z c d .below)
-    go (yes a) (yes b) (yes c) (no d) = tt
-    go (yes a) (yes b) (no c) d = tt
-    go (yes a) (no b) c d = tt
-    go (no a) b c d = tt
+quotients-meet (some A) (some B) (some C) (some D) h k =
+    decided₂ Meets (decPositives (C .lo) (C .hi)) (decPositives (D .lo) (D .hi))
+    (λ a c.
+    let p = shared h in
+    let q = shared k in
+    let z = positive-mono (a .0) (q .1 .above) in
+    ⊑-trans (quotients-hold (p .1) (q .1) z (a .0) (a .1) .above) (quotients-hold (p .2) (q .2) z (c .0) (c .1) .below))
+    (λ a c. tt)
+    (λ a c. tt)
+    (λ a c. tt)
 
 ln-carries : Carries lnB
-unfolding lnB lnIf
-ln-carries m n A B h k = go (decPositive (A .lo)) (decPositive (A .hi)) (decPositive (B .lo)) (decPositive (B .hi))
-  where
-    go : (a : Dec (Positive (A .lo))) (b : Dec (Positive (A .hi))) (c : Dec (Positive (B .lo))) (d : Dec (Positive (B .hi)))
-        → Meets (lnIf m A a b) (lnIf n B c d)
-    go (yes a) (yes b) (yes c) (yes d) = ln-below (A .lo) (B .hi) a d h m n
-    go (yes a) (yes b) (yes c) (no d) = tt
-    go (yes a) (yes b) (no c) d = tt
-    go (yes a) (no b) c d = tt
-    go (no a) b c d = tt
+unfolding lnB
+ln-carries m n A B h k =
+    decided₂ Meets (decPositives (A .lo) (A .hi)) (decPositives (B .lo) (B .hi)) (λ a b. ln-below (A .lo) (B .hi) (a .0) (b .1) h m n)
+    (λ a b. tt) (λ a b. tt) (λ a b. tt)
+
+-- a bracket from its ends, where both are there
+abbrev pub ends : Option Frac → Option Frac → Option Bracket
+ends x y = lift (λ a b. record { lo = a; hi = b }) x y
 
 ends-meet : (a b c d : Option Frac) → Below a d → Meets (ends a b) (ends c d)
-unfolding ends
+unfolding lift _>>_
 ends-meet none b c d h = tt
 ends-meet (some a) none c d h = tt
 ends-meet (some a) (some b) none d h = tt

@@ -3,13 +3,13 @@
 use Prim.Native.Nat.{ℕ, zero, suc, _≤_}
 use mathlib.Core.Option.{Option, none, some}
 use native.Mathlib.Omega.{arith}
-use Rattle.exact.specs.Fraction.{Ratio, Above0, whole, _⊖_, Frac, _⊑_, Positive, zeroF, oneF, magnitude, neg}
+use Rattle.exact.specs.Fraction.{Ratio, Above0, Frac, _⊑_, Positive, zeroF, oneF, magnitude, neg}
 use Rattle.exact.specs.Bracket.{Bracket}
 use Rattle.exact.specs.Series.{expLower, expUpper}
-use Rattle.exact.specs.Ends.{lnLowerBy, lnUpperBy, lnLowerAt, lnUpperAt, expUpperIf, expUpperOf, oneOverOf, signed, expLowerBy, expUpperBy, expLowerAt, expUpperAt}
-use Rattle.exact.specs.Formula.{Formula, const, add, sub, mul, div, least, ln, exp, bracketAt, _>>_, quotientIf, quotientB, lnIf, lnB, expB}
-use Rattle.exact.specs.laws.Containment.{Inside, Isotone, AtMost, AtLeast, pairs-inside, then-inside, ln-isotone, exp-isotone, one-below-lower, recip-least, recip-most, ends-inside}
-use Rattle.exact.specs.laws.Decide.{decF, decPositive, decAbove0}
+use Rattle.exact.specs.Ends.{lnLowerAt, lnUpperAt, expUpperOf, oneOverOf, expLowerAt, expUpperAt}
+use Rattle.exact.specs.Formula.{Formula, const, add, sub, mul, div, least, ln, exp, bracketAt, _>>_, quotientB, lnB, expB}
+use Rattle.exact.specs.laws.Containment.{Inside, Isotone, AtMost, AtLeast, AtMostOf, AtLeastOf, pairs-inside, then-inside, ln-isotone, exp-isotone, one-below-lower, recip-least, recip-most, ends-inside}
+use Rattle.exact.specs.laws.Decide.{decF, decPositives, decAbove0, decided, decided₂, decided-both}
 use Rattle.exact.specs.laws.EndsMeet.{ofRatio-mono, one-below-exp}
 use Rattle.exact.specs.laws.Exp.{exp-lower-grows, exp-room-grows, exp-upper-falls}
 use Rattle.exact.specs.laws.Frac.{⊑-refl, ⊑-trans, neg-anti}
@@ -23,56 +23,45 @@ use Rattle.exact.specs.laws.Steps.{binary-quotient}
 
 module _ (m n : ℕ) (l : m ≤ n) where
   pub ln-lower-at-grows : (t : Frac) (h : Positive t) → lnLowerAt t h m ⊑ lnLowerAt t h n
-  unfolding lnLowerAt lnLowerBy
-  ln-lower-at-grows t h = go (decF oneF t)
-    where
-      go : (d : Dec (oneF ⊑ t)) → lnLowerBy t h d m ⊑ lnLowerBy t h d n
-      go (yes i) = ofRatio-mono (ln-lower-grows _ m n l)
-      go (no i) = neg-anti (ofRatio-mono (ln-upper-falls _ _ m n l))
+  unfolding lnLowerAt
+  ln-lower-at-grows t h =
+      decided-both _⊑_ (decF oneF t) (λ i. ofRatio-mono (ln-lower-grows _ m n l)) (λ i. neg-anti (ofRatio-mono (ln-upper-falls _ _ m n l)))
 
   pub ln-upper-at-falls : (t : Frac) (h : Positive t) → lnUpperAt t h n ⊑ lnUpperAt t h m
-  unfolding lnUpperAt lnUpperBy
-  ln-upper-at-falls t h = go (decF oneF t)
-    where
-      go : (d : Dec (oneF ⊑ t)) → lnUpperBy t h d n ⊑ lnUpperBy t h d m
-      go (yes i) = ofRatio-mono (ln-upper-falls _ _ m n l)
-      go (no i) = neg-anti (ofRatio-mono (ln-lower-grows _ m n l))
+  unfolding lnUpperAt
+  ln-upper-at-falls t h =
+      decided-both _⊑_ (decF oneF t) (λ i. ofRatio-mono (ln-upper-falls _ _ m n l)) (λ i. neg-anti (ofRatio-mono (ln-lower-grows _ m n l)))
 
-  upper-falls-if : (y : Ratio) (d : Dec (Above0 (whole (suc m) ⊖ y))) (e : Dec (Above0 (whole (suc n) ⊖ y)))
-      → AtLeast (signed (expUpperIf y m d)) (signed (expUpperIf y n e))
-  unfolding expUpperIf signed
-  upper-falls-if y (yes h) (yes k) = ofRatio-mono (exp-upper-falls y m n l h k)
-  upper-falls-if y (yes h) (no k) = k (exp-room-grows y m n l h)
-  upper-falls-if y (no h) e = tt
+  upper-of-falls : (y : Ratio) → AtLeastOf (expUpperOf y m) (expUpperOf y n)
+  unfolding expUpperOf
+  upper-of-falls y =
+      decided₂ AtLeastOf (decAbove0 _) (decAbove0 _)
+      (λ h k. ofRatio-mono (exp-upper-falls y m n l h k)) (λ h k. k (exp-room-grows y m n l h)) (λ h k. tt) (λ h k. tt)
 
-  recip-rises-if : (y : Ratio) (d : Dec (Above0 (whole (suc m) ⊖ y))) (e : Dec (Above0 (whole (suc n) ⊖ y)))
-      → AtMost (signed (oneOverOf (expUpperIf y m d))) (signed (oneOverOf (expUpperIf y n e)))
-  unfolding expUpperIf oneOverOf signed
-  recip-rises-if y (yes h) (yes k) =
-      recip-least (expUpper y m h) (expUpper y n k) (decAbove0 _) (decAbove0 _) (above-one (one-below-exp y n k)) (exp-upper-falls y m n l h k)
-  recip-rises-if y (yes h) (no k) = absurd (k (exp-room-grows y m n l h))
-  recip-rises-if y (no h) e = tt
+  recip-of-rises : (y : Ratio) → AtMostOf (oneOverOf (expUpperOf y m)) (oneOverOf (expUpperOf y n))
+  unfolding expUpperOf oneOverOf
+  recip-of-rises y =
+      decided₂ (λ a b. AtMostOf (oneOverOf a) (oneOverOf b)) (decAbove0 _) (decAbove0 _)
+      (λ h k. recip-least (expUpper y m h) (expUpper y n k) (above-one (one-below-exp y n k)) (exp-upper-falls y m n l h k))
+      (λ h k. absurd (k (exp-room-grows y m n l h)))
+      (λ h k. tt)
+      (λ h k. tt)
 
   -- where the earlier end is there, so is the later
   pub exp-lower-at-grows : (y : Frac) → AtMost (expLowerAt y m) (expLowerAt y n)
-  unfolding expLowerAt expLowerBy expUpperOf
-  exp-lower-at-grows y = go (decF zeroF y)
-    where
-      go : (d : Dec (zeroF ⊑ y)) → AtMost (expLowerBy y d m) (expLowerBy y d n)
-      go (yes i) = ofRatio-mono (exp-lower-grows _ m n l)
-      go (no i) = recip-rises-if (magnitude (neg y)) (decAbove0 _) (decAbove0 _)
+  unfolding expLowerAt
+  exp-lower-at-grows y =
+      decided-both AtMostOf (decF zeroF y) (λ i. ofRatio-mono (exp-lower-grows _ m n l)) (λ i. recip-of-rises (magnitude (neg y)))
 
 above-lower : (y : Ratio) (n : ℕ) → 1 ≤ n → Above0 (expLower y n)
 above-lower y zero o = absurd (omega arith)
 above-lower y (suc k) o = above-one (one-below-lower y k)
 
 pub exp-upper-at-falls : (m n : ℕ) → 1 ≤ m → m ≤ n → (y : Frac) → AtLeast (expUpperAt y m) (expUpperAt y n)
-unfolding expUpperAt expUpperBy expUpperOf oneOverOf
-exp-upper-at-falls m n o l y = go (decF zeroF y)
-  where
-    go : (d : Dec (zeroF ⊑ y)) → AtLeast (expUpperBy y d m) (expUpperBy y d n)
-    go (yes i) = upper-falls-if m n l (magnitude y) (decAbove0 _) (decAbove0 _)
-    go (no i) = recip-most _ _ (decAbove0 _) (decAbove0 _) (above-lower _ n (omega arith)) (exp-lower-grows _ m n l)
+unfolding expUpperAt
+exp-upper-at-falls m n o l y =
+    decided-both AtLeastOf (decF zeroF y) (λ i. upper-of-falls m n l (magnitude y))
+    (λ i. recip-most _ _ (above-lower _ n (omega arith)) (exp-lower-grows _ m n l))
 
 -- Brackets
 
@@ -83,14 +72,11 @@ inside-trans none (some J) (some K) h k = h
 inside-trans (some I) (some J) (some K) h k = record { above = ⊑-trans (k .above) (h .above); below = ⊑-trans (h .below) (k .below) }
 
 ln-nested : (m n : ℕ) → m ≤ n → (x : Option Bracket) → Inside (x >> lnB n) (x >> lnB m)
-unfolding _>>_ lnB lnIf
+unfolding _>>_ lnB
 ln-nested m n l none = tt
-ln-nested m n l (some I) = go (decPositive (I .lo)) (decPositive (I .hi))
-  where
-    go : (d : Dec (Positive (I .lo))) (e : Dec (Positive (I .hi))) → Inside (lnIf n I d e) (lnIf m I d e)
-    go (yes d) (yes e) = record { above = ln-lower-at-grows m n l (I .lo) d; below = ln-upper-at-falls m n l (I .hi) e }
-    go (yes d) (no e) = tt
-    go (no d) e = tt
+ln-nested m n l (some I) =
+    decided-both Inside (decPositives (I .lo) (I .hi))
+    (λ d. record { above = ln-lower-at-grows m n l (I .lo) (d .0); below = ln-upper-at-falls m n l (I .hi) (d .1) }) (λ d. tt)
 
 exp-nested : (m n : ℕ) → 1 ≤ m → m ≤ n → (x : Option Bracket) → Inside (x >> expB n) (x >> expB m)
 unfolding _>>_ expB
@@ -101,17 +87,14 @@ exp-isotone-from : (n : ℕ) → 1 ≤ n → Isotone (expB n)
 exp-isotone-from zero o = absurd (omega arith)
 exp-isotone-from (suc k) o = exp-isotone k
 
-quotients-inside : (x y i j : Option Bracket) → Meets x x → Meets y y → Inside x i → Inside y j
+pub quotients-inside : (x y i j : Option Bracket) → Meets x x → Meets y y → Inside x i → Inside y j
     → Inside (x >> (λ A. y >> quotientB A)) (i >> (λ I. j >> quotientB I))
-unfolding _>>_ quotientB quotientIf
+unfolding _>>_ quotientB
 quotients-inside x y none j v w h k = tt
 quotients-inside x y (some I) none v w h k = tt
-quotients-inside x y (some I) (some J) v w h k = go (decPositive (J .lo)) (decPositive (J .hi))
-  where
-    go : (d : Dec (Positive (J .lo))) (e : Dec (Positive (J .hi))) → Inside (x >> (λ A. y >> quotientB A)) (quotientIf I J d e)
-    go (yes d) (yes e) = binary-quotient x y v w h k d (λ p q a b z. quotients-hold a b z d e)
-    go (yes d) (no e) = tt
-    go (no d) e = tt
+quotients-inside x y (some I) (some J) v w h k =
+    decided (λ o. Inside (x >> (λ A. y >> quotientB A)) o) (decPositives (J .lo) (J .hi))
+    (λ d. binary-quotient x y v w h k (d .0) (λ p q a b z. quotients-hold a b z (d .0) (d .1))) (λ d. tt)
 
 -- the N-th bracket, N ≥ M ≥ 1, lies inside the M-th where that is there
 pub nested : (x : Formula) (m n : ℕ) → 1 ≤ m → m ≤ n → Inside (bracketAt x n) (bracketAt x m)

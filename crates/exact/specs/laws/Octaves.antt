@@ -8,7 +8,7 @@ use native.Mathlib.Omega.{arith}
 use mathlib.Core.List.{[], _∷_}
 use lib.Pow.{pow-add}
 use Rattle.exact.specs.Fraction.{Ratio, _≼_, Above0, whole, _⊕_, _⊗_, _⊖_, recip, power, sum}
-use Rattle.exact.specs.Series.{oneOver, even, lnTerm, seriesLower, exponent, fraction, argument, third, two-pow-pos}
+use Rattle.exact.specs.Series.{oneOver, even, lnTerm, seriesLower, exponent, fraction, argument, third}
 use Rattle.exact.specs.Ends.{ln2Lower, lnLower}
 use Rattle.exact.specs.laws.Divisors.{fraction-above}
 use Rattle.exact.specs.laws.Frac.{rearrange}
@@ -16,6 +16,7 @@ use Rattle.exact.specs.laws.Linear.{_+ˢ_, read, back, linear}
 use Rattle.exact.specs.laws.Lipschitz.{ln-fraction-moves}
 use Rattle.exact.specs.laws.Ln.{exponent-low, exponent-mono, fraction-mono, fraction-below-two, whole-mono}
 use Rattle.exact.specs.laws.LnSeries.{series-lower-mono}
+use Rattle.exact.specs.laws.Positive.{two-pow-pos}
 use Rattle.exact.specs.laws.Ratio.{above-whole, _≈_, ≼-refl, ≼-trans, to≼, from≼, ⊕-mono, ⊗-mono, ⊕-assoc}
 
 pub difference : (x y : Ratio) → y ≼ x ⊕ (y ⊖ x)

@@ -8,12 +8,12 @@ use native.Mathlib.Omega.{arith}
 use Rattle.exact.specs.Fraction.{Ratio, _≼_, Above0, whole, _⊕_, _⊗_, _⊖_, recip, power, Frac, _⊑_, Positive, zeroF, _⊠_, neg, ofRatio, magnitude, oneF}
 use Rattle.exact.specs.Bracket.{Bracket}
 use Rattle.exact.specs.Series.{expTerm, expLower, expTail, expUpper}
-use Rattle.exact.specs.Ends.{lnLower, lnUpper, lnLowerBy, lnUpperBy, lnLowerAt, lnUpperAt, expUpperOf, oneOverOf, expLowerBy, expUpperBy, expLowerAt, expUpperAt}
+use Rattle.exact.specs.Ends.{lnLower, lnUpper, lnLowerAt, lnUpperAt, expLowerAt, expUpperAt}
 use Rattle.exact.specs.Formula.{Formula, const, mul, exp, bracketAt}
 use Rattle.exact.specs.laws.Containment.{Inside}
-use Rattle.exact.specs.laws.Decide.{decF, decAbove0}
+use Rattle.exact.specs.laws.Decide.{decF, decided}
 use Rattle.exact.specs.laws.Divisors.{one-magnitude}
-use Rattle.exact.specs.laws.EndsMeet.{ofRatio-mono, one-below-exp, recip-below-one}
+use Rattle.exact.specs.laws.EndsMeet.{signed, ofRatio-mono, one-below-exp, recip-below-one}
 use Rattle.exact.specs.laws.Exp.{exp-lower-mono, exp-upper-mono}
 use Rattle.exact.specs.laws.Frac.{scale-mono, ⊑-refl, ⊑-trans, smaller-glb, larger-lub, neg-anti}
 use Rattle.exact.specs.laws.Ln.{ln-lower-mono, ln-upper-mono}
@@ -81,12 +81,11 @@ less : (y : Ratio) {x : Ratio} (n : ℕ) → Above0 (whole (suc n) ⊖ y) → x 
 less y n g l = above-mono g (⊖-anti (whole (suc n)) l g)
 
 pub upper-at : (y : Ratio) (n : ℕ) (g : Above0 (whole (suc n) ⊖ y)) → UpperEnd (expUpperAt (ofRatio y) n) (expUpper y n g)
-unfolding expUpperAt expUpperBy expUpperOf
-upper-at y n g = go (decF zeroF (ofRatio y))
-  where
-    go : (d : Dec (zeroF ⊑ ofRatio y)) → UpperEnd (expUpperBy (ofRatio y) d n) (expUpper y n g)
-    go (yes i) = upper-if (magnitude (ofRatio y)) n (decAbove0 _) (less y n g (signed-most y)) (λ f. exp-upper-mono (signed-most y) n f g)
-    go (no i) = absurd (i (signed-above y))
+unfolding expUpperAt
+upper-at y n g =
+    decided (λ o. UpperEnd (signed o) (expUpper y n g)) (decF zeroF (ofRatio y))
+    (λ i. upper-if (magnitude (ofRatio y)) n (less y n g (signed-most y)) (λ f. exp-upper-mono (signed-most y) n f g))
+    (λ i. absurd (i (signed-above y)))
 
 negated-zero : (y : Ratio) → magnitude (neg (ofRatio y)) ≼ whole 0
 unfolding ofRatio neg magnitude whole
@@ -114,19 +113,18 @@ recip-above-one x p l = omega arith
 
 pub lower-at-negative : (y : Ratio) (n : ℕ) → 1 ≤ n → (g : Above0 (whole (suc n) ⊖ y)) (p : Above0 (expUpper y n g))
     → LowerEnd (expLowerAt (neg (ofRatio y)) n) (recip (expUpper y n g) p)
-unfolding expLowerAt expLowerBy expUpperOf
-lower-at-negative y n o g p = go (decF zeroF (neg (ofRatio y)))
-  where
-    go : (d : Dec (zeroF ⊑ neg (ofRatio y))) → LowerEnd (expLowerBy (neg (ofRatio y)) d n) (recip (expUpper y n g) p)
-    go (yes i) =
-        record {
-          end = ofRatio (expLower (magnitude (neg (ofRatio y))) n);
-          is = refl;
-          bound = ofRatio-mono (≼-trans (recip-below-one _ p (one-below-exp y n g)) (least-all (least-one _) n o));
-        }
-    go (no i) =
-        lower-if (magnitude (neg (neg (ofRatio y)))) _ n (decAbove0 _) (less y n g (twice-most y))
-        λ f. ≼-trans (⊗-mono (≼-refl _) (exp-upper-mono (twice-most y) n f g)) (to≼ (recip-product (expUpper y n g) p))
+unfolding expLowerAt
+lower-at-negative y n o g p =
+    decided (λ o. LowerEnd (signed o) (recip (expUpper y n g) p)) (decF zeroF (neg (ofRatio y)))
+    (λ i.
+    record {
+      end = ofRatio (expLower (magnitude (neg (ofRatio y))) n);
+      is = refl;
+      bound = ofRatio-mono (≼-trans (recip-below-one _ p (one-below-exp y n g)) (least-all (least-one _) n o));
+    })
+    λ i.
+    lower-if (magnitude (neg (neg (ofRatio y)))) _ n (less y n g (twice-most y))
+    λ f. ≼-trans (⊗-mono (≼-refl _) (exp-upper-mono (twice-most y) n f g)) (to≼ (recip-product (expUpper y n g) p))
 
 -- e^0 = 1
 zero-tail : (P F G S : Ratio) → S ≼ whole 1 → S ⊕ whole 0 ⊗ P ⊗ F ⊗ G ≼ whole 1
@@ -139,19 +137,18 @@ zero-upper zero o g = absurd (omega arith)
 zero-upper (suc n) o g = zero-tail _ _ _ _ (most-zero .all (suc n))
 
 pub upper-at-negative : (y : Ratio) (n : ℕ) → 1 ≤ n → (p : Above0 (expLower y n)) → UpperEnd (expUpperAt (neg (ofRatio y)) n) (recip (expLower y n) p)
-unfolding expUpperAt expUpperBy expUpperOf oneOverOf
-upper-at-negative y n o p = go (decF zeroF (neg (ofRatio y)))
-  where
-    go : (d : Dec (zeroF ⊑ neg (ofRatio y))) → UpperEnd (expUpperBy (neg (ofRatio y)) d n) (recip (expLower y n) p)
-    go (yes i) =
-        let r : Above0 (whole (suc n) ⊖ whole 0) = room (whole 0) 0 n (≼-refl _) (omega arith) in
-        upper-if (magnitude (neg (ofRatio y))) n (decAbove0 _) (less (whole 0) n r (negated-zero y))
-        λ f.
-        ≼-trans (exp-upper-mono (negated-zero y) n f r)
-        (≼-trans (zero-upper n o r) (recip-above-one _ p (≼-trans (exp-lower-mono (zero-or y i) n) (most-zero .all n))))
-    go (no i) =
-        upper-one-over (expLower (magnitude (neg (neg (ofRatio y)))) n) _ (decAbove0 _) (above-mono p (exp-lower-mono (twice-least y) n))
-        (≼-trans (from≼ (recip-product (expLower y n) p)) (⊗-mono (≼-refl _) (exp-lower-mono (twice-least y) n)))
+unfolding expUpperAt
+upper-at-negative y n o p =
+    decided (λ o. UpperEnd (signed o) (recip (expLower y n) p)) (decF zeroF (neg (ofRatio y)))
+    (λ i.
+    let r : Above0 (whole (suc n) ⊖ whole 0) = room (whole 0) 0 n (≼-refl _) (omega arith) in
+    upper-if (magnitude (neg (ofRatio y))) n (less (whole 0) n r (negated-zero y))
+    λ f.
+    ≼-trans (exp-upper-mono (negated-zero y) n f r)
+    (≼-trans (zero-upper n o r) (recip-above-one _ p (≼-trans (exp-lower-mono (zero-or y i) n) (most-zero .all n)))))
+    λ i.
+    upper-one-over (expLower (magnitude (neg (neg (ofRatio y)))) n) _ (above-mono p (exp-lower-mono (twice-least y) n))
+    (≼-trans (from≼ (recip-product (expLower y n) p)) (⊗-mono (≼-refl _) (exp-lower-mono (twice-least y) n)))
 
 abbrev pub pair : Frac → Frac → Bracket
 pair l h = record { lo = l; hi = h }
@@ -159,37 +156,27 @@ pair l h = record { lo = l; hi = h }
 -- The ends of ln t
 
 pub ln-low-above : (t : Frac) (o : oneF ⊑ t) (n : ℕ) (p : Positive t) → ofRatio (lnLower (magnitude t) n) ⊑ lnLowerAt t p n
-unfolding lnLowerAt lnLowerBy
-ln-low-above t o n p = go (decF oneF t)
-  where
-    go : (d : Dec (oneF ⊑ t)) → ofRatio (lnLower (magnitude t) n) ⊑ lnLowerBy t p d n
-    go (yes i) = ⊑-refl _
-    go (no i) = absurd (i o)
+unfolding lnLowerAt
+ln-low-above t o n p = decided (λ x. ofRatio (lnLower (magnitude t) n) ⊑ x) (decF oneF t) (λ i. ⊑-refl _) (λ i. absurd (i o))
 
 pub ln-high-above : (t : Frac) (o : oneF ⊑ t) (n : ℕ) (p : Positive t) → lnUpperAt t p n ⊑ ofRatio (lnUpper (magnitude t) (one-magnitude o) n)
-unfolding lnUpperAt lnUpperBy
-ln-high-above t o n p = go (decF oneF t)
-  where
-    go : (d : Dec (oneF ⊑ t)) → lnUpperBy t p d n ⊑ ofRatio (lnUpper (magnitude t) (one-magnitude o) n)
-    go (yes i) = ofRatio-mono (ln-upper-mono _ _ _ _ (≼-refl (magnitude t)) n)
-    go (no i) = absurd (i o)
+unfolding lnUpperAt
+ln-high-above t o n p =
+    decided (λ x. x ⊑ ofRatio (lnUpper (magnitude t) (one-magnitude o) n)) (decF oneF t)
+    (λ i. ofRatio-mono (ln-upper-mono _ _ _ _ (≼-refl (magnitude t)) n)) (λ i. absurd (i o))
 
 module _ (t : Frac) (b : ¬ (oneF ⊑ t)) (u : Above0 (magnitude t)) (o : whole 1 ≼ recip (magnitude t) u) (n : ℕ) (p : Positive t) where
   pub ln-low-below : neg (ofRatio (lnUpper (recip (magnitude t) u) o n)) ⊑ lnLowerAt t p n
-  unfolding lnLowerAt lnLowerBy
-  ln-low-below = go (decF oneF t)
-    where
-      go : (d : Dec (oneF ⊑ t)) → neg (ofRatio (lnUpper (recip (magnitude t) u) o n)) ⊑ lnLowerBy t p d n
-      go (yes i) = absurd (b i)
-      go (no i) = neg-anti (ofRatio-mono (ln-upper-mono _ _ _ _ (recip-anti _ _ (≼-refl (magnitude t))) n))
+  unfolding lnLowerAt
+  ln-low-below =
+      decided (λ x. neg (ofRatio (lnUpper (recip (magnitude t) u) o n)) ⊑ x) (decF oneF t) (λ i. absurd (b i))
+      (λ i. neg-anti (ofRatio-mono (ln-upper-mono _ _ _ _ (recip-anti _ _ (≼-refl (magnitude t))) n)))
 
   pub ln-high-below : lnUpperAt t p n ⊑ neg (ofRatio (lnLower (recip (magnitude t) u) n))
-  unfolding lnUpperAt lnUpperBy
-  ln-high-below = go (decF oneF t)
-    where
-      go : (d : Dec (oneF ⊑ t)) → lnUpperBy t p d n ⊑ neg (ofRatio (lnLower (recip (magnitude t) u) n))
-      go (yes i) = absurd (b i)
-      go (no i) = neg-anti (ofRatio-mono (ln-lower-mono _ _ o (recip-anti _ _ (≼-refl (magnitude t))) n))
+  unfolding lnUpperAt
+  ln-high-below =
+      decided (λ x. x ⊑ neg (ofRatio (lnLower (recip (magnitude t) u) n))) (decF oneF t) (λ i. absurd (b i))
+      (λ i. neg-anti (ofRatio-mono (ln-lower-mono _ _ o (recip-anti _ _ (≼-refl (magnitude t))) n)))
 
 -- e^ of a bracket with the ends at I's
 pub exp-of : (x : Formula) (j : ℕ) (I : Bracket) {L U : Ratio} → Inside (bracketAt x (suc j)) (some I) → LowerEnd (expLowerAt (I .lo) (suc j)) L

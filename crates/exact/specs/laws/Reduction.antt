@@ -9,10 +9,10 @@ use native.Mathlib.Nat.{mul-le-mul-right, le-dest}
 use native.Mathlib.Omega.{arith}
 use Rattle.exact.specs.Fraction.{Ratio, _≼_, Above0, whole, _⊕_, _⊗_, _⊖_, recip, power, sum, Frac, _⊑_, zeroF, neg, ofRatio, magnitude}
 use Rattle.exact.specs.Series.{factorial, expTerm, expLower, expUpper, oneOver}
-use Rattle.exact.specs.Ends.{expUpperIf, expUpperOf, oneOverIf, oneOverOf, signed, expLowerBy, expUpperBy, expLowerAt, expUpperAt}
+use Rattle.exact.specs.Ends.{expUpperOf, oneOverOf, expLowerAt, expUpperAt}
 use Rattle.exact.specs.laws.Addition.{sum-below-product, product-below-sum}
-use Rattle.exact.specs.laws.Decide.{decF, decAbove0}
-use Rattle.exact.specs.laws.EndsMeet.{ofRatio-mono, first-term, one-below-exp}
+use Rattle.exact.specs.laws.Decide.{decF, decAbove0, decided}
+use Rattle.exact.specs.laws.EndsMeet.{signed, ofRatio-mono, first-term, one-below-exp}
 use Rattle.exact.specs.laws.Exp.{exp-lower-grows, exp-lower-upper, exp-lower-mono}
 use Rattle.exact.specs.laws.Ratio.{nothing-times, above-one, _≈_, ≼-refl, ≼-trans, to≼, from≼, ⊕-mono, ⊗-mono}
 use Rattle.exact.specs.laws.Sums.{after, after-is}
@@ -152,65 +152,61 @@ above-recip x K p h = omega arith
 -- y ≥ 0
 
 pub lower-from : {L : Ratio} {t : ℕ} (y : Frac) → zeroF ⊑ y → Least t (magnitude y) L → (n : ℕ) → t ≤ n → LowerEnd (expLowerAt y n) L
-unfolding expLowerAt expLowerBy
-lower-from {L} y z h n l = go (decF zeroF y)
-  where
-    go : (d : Dec (zeroF ⊑ y)) → LowerEnd (expLowerBy y d n) L
-    go (yes i) = record { end = ofRatio (expLower (magnitude y) n); is = refl; bound = ofRatio-mono (least-all h n l) }
-    go (no i) = absurd (i z)
+unfolding expLowerAt
+lower-from {L} y z h n l =
+    decided (λ o. LowerEnd (signed o) L) (decF zeroF y)
+    (λ i. record { end = ofRatio (expLower (magnitude y) n); is = refl; bound = ofRatio-mono (least-all h n l) }) (λ i. absurd (i z))
 
-pub upper-if : (y : Ratio) {U : Ratio} (n : ℕ) (e : Dec (Above0 (whole (suc n) ⊖ y))) → Above0 (whole (suc n) ⊖ y)
-    → ((g : Above0 (whole (suc n) ⊖ y)) → expUpper y n g ≼ U) → UpperEnd (signed (expUpperIf y n e)) U
-unfolding expUpperIf signed
-upper-if y n (yes g) r h = record { end = ofRatio (expUpper y n g); is = refl; bound = ofRatio-mono (h g) }
-upper-if y n (no g) r h = absurd (g r)
+pub upper-if : (y : Ratio) {U : Ratio} (n : ℕ) → Above0 (whole (suc n) ⊖ y) → ((g : Above0 (whole (suc n) ⊖ y)) → expUpper y n g ≼ U)
+    → UpperEnd (signed (expUpperOf y n)) U
+unfolding expUpperOf
+upper-if y {U} n r h =
+    decided (λ o. UpperEnd (signed o) U) (decAbove0 _)
+    (λ g. record { end = ofRatio (expUpper y n g); is = refl; bound = ofRatio-mono (h g) }) (λ g. absurd (g r))
 
 pub upper-from : {U : Ratio} (y : Frac) → zeroF ⊑ y → Most (magnitude y) U → (c k n : ℕ) → magnitude y ≼ whole c → suc (2 * c + k) ≤ n
     → UpperEnd (expUpperAt y n) (U ⊗ (whole 1 ⊕ power half k))
-unfolding expUpperAt expUpperBy expUpperOf
-upper-from {U} y z h c k n b l = go (decF zeroF y)
-  where
-    go : (d : Dec (zeroF ⊑ y)) → UpperEnd (expUpperBy y d n) (U ⊗ (whole 1 ⊕ power half k))
-    go (yes i) = upper-if (magnitude y) n (decAbove0 _) (room (magnitude y) c n b (omega arith)) (upper-most c k n h b l)
-    go (no i) = absurd (i z)
+unfolding expUpperAt
+upper-from {U} y z h c k n b l =
+    decided (λ o. UpperEnd (signed o) (U ⊗ (whole 1 ⊕ power half k))) (decF zeroF y)
+    (λ i. upper-if (magnitude y) n (room (magnitude y) c n b (omega arith)) (upper-most c k n h b l)) (λ i. absurd (i z))
 
 -- y < 0
 
-lower-one-over : (x L : Ratio) (e : Dec (Above0 x)) → whole 1 ≼ x → L ⊗ x ≼ whole 1 → LowerEnd (signed (oneOverIf x e)) L
-unfolding oneOverIf signed
-lower-one-over x L (yes p) o h = record { end = ofRatio (recip x p); is = refl; bound = ofRatio-mono (below-recip x L p h) }
-lower-one-over x L (no p) o h = absurd (p (above-one o))
+lower-one-over : (x L : Ratio) → whole 1 ≼ x → L ⊗ x ≼ whole 1 → LowerEnd (signed (oneOverOf (some x))) L
+unfolding oneOverOf
+lower-one-over x L o h =
+    decided (λ o. LowerEnd (signed o) L) (decAbove0 x)
+    (λ p. record { end = ofRatio (recip x p); is = refl; bound = ofRatio-mono (below-recip x L p h) }) (λ p. absurd (p (above-one o)))
 
-pub upper-one-over : (x U : Ratio) (e : Dec (Above0 x)) → Above0 x → whole 1 ≼ U ⊗ x → UpperEnd (signed (oneOverIf x e)) U
-unfolding oneOverIf signed
-upper-one-over x U (yes p) o h = record { end = ofRatio (recip x p); is = refl; bound = ofRatio-mono (above-recip x U p h) }
-upper-one-over x U (no p) o h = absurd (p o)
+pub upper-one-over : (x U : Ratio) → Above0 x → whole 1 ≼ U ⊗ x → UpperEnd (signed (oneOverOf (some x))) U
+unfolding oneOverOf
+upper-one-over x U o h =
+    decided (λ o. UpperEnd (signed o) U) (decAbove0 x)
+    (λ p. record { end = ofRatio (recip x p); is = refl; bound = ofRatio-mono (above-recip x U p h) }) (λ p. absurd (p o))
 
-pub lower-if : (y L : Ratio) (n : ℕ) (e : Dec (Above0 (whole (suc n) ⊖ y))) → Above0 (whole (suc n) ⊖ y)
-    → ((g : Above0 (whole (suc n) ⊖ y)) → L ⊗ expUpper y n g ≼ whole 1) → LowerEnd (signed (oneOverOf (expUpperIf y n e))) L
-unfolding expUpperIf oneOverOf
-lower-if y L n (yes g) r h = lower-one-over (expUpper y n g) L (decAbove0 _) (one-below-exp y n g) (h g)
-lower-if y L n (no g) r h = absurd (g r)
+pub lower-if : (y L : Ratio) (n : ℕ) → Above0 (whole (suc n) ⊖ y) → ((g : Above0 (whole (suc n) ⊖ y)) → L ⊗ expUpper y n g ≼ whole 1)
+    → LowerEnd (signed (oneOverOf (expUpperOf y n))) L
+unfolding expUpperOf
+lower-if y L n r h =
+    decided (λ o. LowerEnd (signed (oneOverOf o)) L) (decAbove0 _)
+    (λ g. lower-one-over (expUpper y n g) L (one-below-exp y n g) (h g)) (λ g. absurd (g r))
 
 pub lower-from-negative : {U : Ratio} (y : Frac) → ¬ (zeroF ⊑ y) → Most (magnitude (neg y)) U
     → (c k n : ℕ) → magnitude (neg y) ≼ whole c → suc (2 * c + k) ≤ n
     → (L : Ratio) → L ⊗ (U ⊗ (whole 1 ⊕ power half k)) ≼ whole 1 → LowerEnd (expLowerAt y n) L
-unfolding expLowerAt expLowerBy expUpperOf
-lower-from-negative y z h c k n b l L m = go (decF zeroF y)
-  where
-    go : (d : Dec (zeroF ⊑ y)) → LowerEnd (expLowerBy y d n) L
-    go (yes i) = absurd (z i)
-    go (no i) =
-        lower-if (magnitude (neg y)) L n (decAbove0 _) (room (magnitude (neg y)) c n b (omega arith))
-        λ g. ≼-trans (⊗-mono (≼-refl L) (upper-most c k n h b l g)) m
+unfolding expLowerAt
+lower-from-negative y z h c k n b l L m =
+    decided (λ o. LowerEnd (signed o) L) (decF zeroF y) (λ i. absurd (z i))
+    λ i.
+    lower-if (magnitude (neg y)) L n (room (magnitude (neg y)) c n b (omega arith))
+    λ g. ≼-trans (⊗-mono (≼-refl L) (upper-most c k n h b l g)) m
 
 pub upper-from-negative : {L : Ratio} {t : ℕ} (y : Frac) → ¬ (zeroF ⊑ y) → Least t (magnitude (neg y)) L → (n : ℕ) → 1 ≤ n → t ≤ n
     → (U : Ratio) → whole 1 ≼ U ⊗ L → UpperEnd (expUpperAt y n) U
-unfolding expUpperAt expUpperBy oneOverOf
-upper-from-negative y z h n o l U m = go (decF zeroF y)
-  where
-    go : (d : Dec (zeroF ⊑ y)) → UpperEnd (expUpperBy y d n) U
-    go (yes i) = absurd (z i)
-    go (no i) =
-        upper-one-over (expLower (magnitude (neg y)) n) U (decAbove0 _) (above-one (least-all (least-one (magnitude (neg y))) n o))
-        (≼-trans m (⊗-mono (≼-refl U) (least-all h n l)))
+unfolding expUpperAt
+upper-from-negative y z h n o l U m =
+    decided (λ o. UpperEnd (signed o) U) (decF zeroF y) (λ i. absurd (z i))
+    λ i.
+    upper-one-over (expLower (magnitude (neg y)) n) U (above-one (least-all (least-one (magnitude (neg y))) n o))
+    (≼-trans m (⊗-mono (≼-refl U) (least-all h n l)))

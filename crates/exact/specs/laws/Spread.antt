@@ -7,8 +7,8 @@ use native.Mathlib.Decide.{decLe}
 use native.Mathlib.Omega.{arith}
 use Rattle.exact.specs.Fraction.{Ratio, _≼_, Above0, whole, _⊕_, _⊗_, _⊖_, recip, power, sum, Frac, _⊑_, Positive, _⊞_, neg, ofRatio, magnitude, oneF}
 use Rattle.exact.specs.Series.{expLower, oneOver, seriesLower, climb, exponent, fraction, argument}
-use Rattle.exact.specs.Ends.{ln2Lower, lnLower, lnUpper, lnLowerBy, lnUpperBy, lnLowerAt, lnUpperAt}
-use Rattle.exact.specs.laws.Decide.{decF}
+use Rattle.exact.specs.Ends.{ln2Lower, lnLower, lnUpper, lnLowerAt, lnUpperAt}
+use Rattle.exact.specs.laws.Decide.{decF, decided, decided₂}
 use Rattle.exact.specs.laws.Divisors.{magnitude-above, one-magnitude, one-recip}
 use Rattle.exact.specs.laws.EndsMeet.{above-moves, positive-zero, magnitude-mono}
 use Rattle.exact.specs.laws.Frac.{⊑-trans}
@@ -126,21 +126,24 @@ unfolding ofRatio neg _⊕_ _⊞_
 sum-crossed x y z h = omega (arith, h .cross)
 
 -- how many octaves t lies from 1
-octavesBy : (t : Frac) (h : Positive t) → Dec (oneF ⊑ t) → ℕ
-octavesBy t h (yes l) = exponent (magnitude t)
-octavesBy t h (no l) = exponent (recip (magnitude t) (magnitude-above t h))
+unfoldable pub octaves : (t : Frac) → Positive t → ℕ
+octaves t h = elim (decF oneF t) [ yes l ↦ exponent (magnitude t) | no l ↦ exponent (recip (magnitude t) (magnitude-above t h)) ]
 
-pub octaves : (t : Frac) → Positive t → ℕ
-octaves t h = octavesBy t h (decF oneF t)
+octaves-above : (t : Frac) (h : Positive t) → oneF ⊑ t → octaves t h ≡ exponent (magnitude t)
+unfolding octaves
+octaves-above t h o = decided (λ k. k ≡ exponent (magnitude t)) (decF oneF t) (λ l. refl) (λ l. absurd (l o))
+
+octaves-below : (t : Frac) (h : Positive t) → ¬ (oneF ⊑ t) → octaves t h ≡ exponent (recip (magnitude t) (magnitude-above t h))
+unfolding octaves
+octaves-below t h o = decided (λ k. k ≡ exponent (recip (magnitude t) (magnitude-above t h))) (decF oneF t) (λ l. absurd (o l)) (λ l. refl)
 
 -- 2^-c ≤ t ≤ 2^c
 pub octaves-most : (t : Frac) (h : Positive t) (c : ℕ) → magnitude t .num ≤ 2 ^ c * magnitude t .den → magnitude t .den ≤ 2 ^ c * magnitude t .num → octaves t h ≤ c
-unfolding octaves octavesBy recip
-octaves-most t h c a b = go (decF oneF t)
-  where
-    go : (d : Dec (oneF ⊑ t)) → octavesBy t h d ≤ c
-    go (yes l) = exponent-most (magnitude t) (one-magnitude l) c a
-    go (no l) = exponent-most (recip (magnitude t) (magnitude-above t h)) (one-recip t (magnitude-above t h) l) c b
+unfolding octaves recip
+octaves-most t h c a b =
+    decided (λ k. k ≤ c) (decF oneF t)
+    (λ l. exponent-most (magnitude t) (one-magnitude l) c a)
+    (λ l. exponent-most (recip (magnitude t) (magnitude-above t h)) (one-recip t (magnitude-above t h) l) c b)
 
 -- δ/s, and the remainders of both ends
 unfoldable pub spread : (s : Frac) → Positive s → Ratio → (c n : ℕ) → Ratio
@@ -158,26 +161,24 @@ both-tails Z N a b c h = ≼-trans (⊕-mono (≼-refl Z) (to≼ (together a b N
 
 pub ln-spread-signed : (s t : Frac) (δ : Ratio) (h : Positive s) (k : Positive t) → s ⊑ t → t ⊑ s ⊞ ofRatio δ → (n : ℕ)
     → lnUpperAt t k n ⊑ lnLowerAt s h n ⊞ ofRatio (spread s h δ (suc (octaves s h) + suc (octaves t k)) n)
-unfolding lnUpperAt lnLowerAt lnUpperBy lnLowerBy octaves octavesBy spread
-ln-spread-signed s t δ h k l m n = go (decF oneF s) (decF oneF t)
+unfolding lnUpperAt lnLowerAt spread
+ln-spread-signed s t δ h k l m n =
+    decided₂ (λ x y. y ⊑ x ⊞ ofRatio (spread s h δ (suc (octaves s h) + suc (octaves t k)) n)) (decF oneF s) (decF oneF t)
+    (λ i j.
+    sum-signed _ _ _
+    (≼-trans (ln-spread (magnitude s) (magnitude t) δ (one-magnitude i) (magnitude-mono l) moves (magnitude-above s h) (one-magnitude j) n)
+    (≼-trans (to≼ (⊕-assoc _ _ _)) (⊕-mono (≼-refl _) (fewer _ (power ninth n) _ _ (omega (arith, octaves-above t k j)))))))
+    (λ i j. absurd (j (⊑-trans i l)))
+    (λ i j.
+    sum-crossed _ _ _
+    (≼-trans (ln-spread-across (magnitude s) (magnitude t) δ moves (magnitude-above s h) (one-magnitude j) (one-recip s (magnitude-above s h) i) n)
+    (both-tails _ (power ninth n) _ _ _ (omega (arith, octaves-below s h i, octaves-above t k j)))))
+    λ i j.
+    sum-negated _ _ _
+    (≼-trans
+    (ln-spread-below (magnitude s) (magnitude t) δ (magnitude-mono l) moves (magnitude-above s h) (magnitude-above t k)
+    (one-recip t (magnitude-above t k) j) (one-recip s (magnitude-above s h) i) n)
+    (≼-trans (to≼ (⊕-assoc _ _ _)) (⊕-mono (≼-refl _) (fewer _ (power ninth n) _ _ (omega (arith, octaves-below s h i))))))
   where
     moves : magnitude t ≼ magnitude s ⊕ δ
     moves = above-moves s t δ (positive-zero h) (positive-zero k) m
-
-    go : (d : Dec (oneF ⊑ s)) (e : Dec (oneF ⊑ t))
-        → lnUpperBy t k e n ⊑ lnLowerBy s h d n ⊞ ofRatio (spread s h δ (suc (octavesBy s h d) + suc (octavesBy t k e)) n)
-    go (yes i) (yes j) =
-        sum-signed _ _ _
-        (≼-trans (ln-spread (magnitude s) (magnitude t) δ (one-magnitude i) (magnitude-mono l) moves (magnitude-above s h) (one-magnitude j) n)
-        (≼-trans (to≼ (⊕-assoc _ _ _)) (⊕-mono (≼-refl _) (fewer _ (power ninth n) _ _ (omega arith)))))
-    go (yes i) (no j) = absurd (j (⊑-trans i l))
-    go (no i) (yes j) =
-        sum-crossed _ _ _
-        (≼-trans (ln-spread-across (magnitude s) (magnitude t) δ moves (magnitude-above s h) (one-magnitude j) (one-recip s (magnitude-above s h) i) n)
-        (both-tails _ (power ninth n) _ _ _ (omega arith)))
-    go (no i) (no j) =
-        sum-negated _ _ _
-        (≼-trans
-        (ln-spread-below (magnitude s) (magnitude t) δ (magnitude-mono l) moves (magnitude-above s h) (magnitude-above t k)
-        (one-recip t (magnitude-above t k) j) (one-recip s (magnitude-above s h) i) n)
-        (≼-trans (to≼ (⊕-assoc _ _ _)) (⊕-mono (≼-refl _) (fewer _ (power ninth n) _ _ (omega arith)))))

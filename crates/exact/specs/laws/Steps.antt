@@ -4,20 +4,20 @@
 use Prim.Native.Nat.{ℕ, suc}
 use mathlib.Core.Path.{_≡_, subst₂}
 use mathlib.Core.Option.{Option, none, some}
-use Rattle.exact.specs.Fraction.{Frac, _⊑_, Positive, zeroF, _⊞_, _⊟_, _⊠_, inverse, quotient}
+use Rattle.exact.specs.Fraction.{Frac, _⊑_, Positive, zeroF, _⊞_, _⊟_, _⊠_, inverse}
 use Rattle.exact.specs.Bracket.{smaller, Bracket, _∈_, overPairs, quotients}
 use Rattle.exact.specs.Ends.{lnLowerAt, lnUpperAt, expLowerAt, expUpperAt}
-use Rattle.exact.specs.Formula.{Formula, const, add, sub, mul, div, least, ln, exp, bracketAt, lift, _>>_, ends, lnIf, lnB, expB, quotientB, quotientIf}
+use Rattle.exact.specs.Formula.{Formula, const, add, sub, mul, div, least, ln, exp, bracketAt, lift, _>>_, lnB, expB, quotientB}
 use Rattle.exact.specs.laws.Containment.{Inside, inside-wider, then-inside, ln-isotone, exp-isotone}
-use Rattle.exact.specs.laws.Decide.{decPositive}
+use Rattle.exact.specs.laws.Decide.{decPositives, decided}
 use Rattle.exact.specs.laws.Frac.{positive-mono, inverse-anti, ⊑-trans, ⊞-mono, ⊟-mono, ⊠-mono, ⊠-comm, smaller-left, smaller-right, smaller-glb}
-use Rattle.exact.specs.laws.Meeting.{Meets, meeting}
-use Rattle.exact.specs.laws.Pairs.{outward-in, lo-in, hi-in}
+use Rattle.exact.specs.laws.Meeting.{ends, Meets, meeting}
+use Rattle.exact.specs.laws.Pairs.{quotient, outward-in, lo-in, hi-in}
 
 -- K contains `op` of every point of I and every point of J
 pub binary : {op : Frac → Frac → Frac} (x y : Option Bracket) {I J K : Bracket} → Meets x x → Meets y y → Inside x (some I) → Inside y (some J)
     → ((p q : Frac) → p ∈ I → q ∈ J → op p q ∈ K) → Inside (lift (overPairs op) x y) (some K)
-unfolding lift overPairs
+unfolding lift _>>_ overPairs
 binary none y v w h k r = h
 binary (some A) none v w h k r = k
 binary (some A) (some B) v w h k r =
@@ -30,20 +30,18 @@ binary (some A) (some B) v w h k r =
 -- K contains the quotient of every point of I by every point of J, which lies above 0
 pub binary-quotient : (x y : Option Bracket) {I J K : Bracket} → Meets x x → Meets y y → Inside x (some I) → Inside y (some J) → Positive (J .lo)
     → ((p q : Frac) → p ∈ I → q ∈ J → (z : Positive q) → quotient p q z ∈ K) → Inside (x >> (λ A. y >> quotientB A)) (some K)
-unfolding _>>_ quotientB quotientIf quotients
+unfolding _>>_ quotientB quotients overPairs
 binary-quotient none y v w h k z r = h
 binary-quotient (some A) none v w h k z r = k
-binary-quotient (some A) (some B) {I} {J} {K} v w h k z r = go (decPositive (B .lo)) (decPositive (B .hi))
-  where
-    go : (d : Dec (Positive (B .lo))) (e : Dec (Positive (B .hi))) → Inside (quotientIf A B d e) (some K)
-    go (yes d) (yes e) =
-        let a = lo-in h v in
-        let b = hi-in h v in
-        let s = lo-in k w in
-        let t = hi-in k w in
-        outward-in (r _ _ a s d) (r _ _ a t e) (r _ _ b s d) (r _ _ b t e)
-    go (yes d) (no e) = absurd (e (positive-mono d w))
-    go (no d) e = absurd (d (positive-mono z (k .above)))
+binary-quotient (some A) (some B) {K = K} v w h k z r =
+    decided (λ o. Inside o (some K)) (decPositives (B .lo) (B .hi))
+    (λ d.
+    let a = lo-in h v in
+    let b = hi-in h v in
+    let s = lo-in k w in
+    let t = hi-in k w in
+    outward-in (r _ _ a s (d .0)) (r _ _ a t (d .1)) (r _ _ b s (d .0)) (r _ _ b t (d .1)))
+    λ d. let p = positive-mono z (k .above) in d (p, positive-mono p w)
 
 pub const-inside : (c : Frac) (n : ℕ) (K : Bracket) → c ∈ K → Inside (bracketAt (const c) n) (some K)
 unfolding bracketAt
@@ -94,15 +92,11 @@ mul-inside x y n I J K h k z w a b =
 pub ln-inside : (x : Formula) (n : ℕ) (I K : Bracket) → Inside (bracketAt x n) (some I) → Positive (I .lo) → Positive (I .hi)
     → ((p : Positive (I .lo)) → K .lo ⊑ lnLowerAt (I .lo) p n) → ((q : Positive (I .hi)) → lnUpperAt (I .hi) q n ⊑ K .hi)
     → Inside (bracketAt (ln x) n) (some K)
-unfolding bracketAt _>>_ lnB lnIf
+unfolding bracketAt _>>_ lnB
 ln-inside x n I K h p q a b =
-    go (bracketAt x n >> lnB n) (decPositive (I .lo)) (decPositive (I .hi))
+    decided (λ o. Inside (bracketAt x n >> lnB n) o → Inside (bracketAt x n >> lnB n) (some K)) (decPositives (I .lo) (I .hi))
+    (λ d g. inside-wider (bracketAt x n >> lnB n) (record { above = a (d .0); below = b (d .1) }) g) (λ d g. absurd (d (p, q)))
     (then-inside (lnB n) (ln-isotone n) (bracketAt x n) (some I) (meeting x n n) h)
-  where
-    go : (r : Option Bracket) (d : Dec (Positive (I .lo))) (e : Dec (Positive (I .hi))) → Inside r (lnIf n I d e) → Inside r (some K)
-    go r (yes i) (yes j) g = inside-wider r (record { above = a i; below = b j }) g
-    go r (yes i) (no j) g = absurd (j q)
-    go r (no i) e g = absurd (i p)
 
 -- a dividend from 0 up; R contains one over J
 pub div-inside : (x y : Formula) (n : ℕ) (I J R K : Bracket) → Inside (bracketAt x n) (some I) → Inside (bracketAt y n) (some J)
@@ -123,7 +117,7 @@ div-inside x y n I J R K h k p q c d z w a b =
 pub exp-inside : (x : Formula) (k : ℕ) (I K : Bracket) (l u : Frac) → Inside (bracketAt x (suc k)) (some I)
     → expLowerAt (I .lo) (suc k) ≡ some l → expUpperAt (I .hi) (suc k) ≡ some u → K .lo ⊑ l → u ⊑ K .hi
     → Inside (bracketAt (exp x) (suc k)) (some K)
-unfolding bracketAt _>>_ expB ends
+unfolding bracketAt _>>_ expB lift
 exp-inside x k I K l u h p q a b =
     go (bracketAt x (suc k) >> expB (suc k)) (expLowerAt (I .lo) (suc k)) (expUpperAt (I .hi) (suc k)) p q
     (then-inside (expB (suc k)) (exp-isotone k) (bracketAt x (suc k)) (some I) (meeting x (suc k) (suc k)) h)

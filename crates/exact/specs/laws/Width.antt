@@ -5,12 +5,13 @@ use mathlib.Core.Path.{_≡_, refl, ap}
 use native.Mathlib.Nat.{mul-le-mul-right}
 use native.Mathlib.Omega.{arith}
 use Rattle.exact.specs.Fraction.{Ratio, _≼_, Above0, whole, _⊕_, _⊗_, _⊖_, recip, power, sum}
-use Rattle.exact.specs.Series.{expTerm, expLower, expTail, oneOver, even, odd, odd-pos, lnTail, gap, seriesLower, seriesUpper, exponent, fraction, argument, third}
+use Rattle.exact.specs.Series.{expTerm, expLower, expTail, oneOver, even, odd, lnTail, gap, seriesLower, seriesUpper, exponent, fraction, argument, third}
 use Rattle.exact.specs.Ends.{ln2Lower, ln2Upper, lnLower, lnUpper}
 use Rattle.exact.specs.laws.Divisors.{gap-third}
 use Rattle.exact.specs.laws.Exp.{term-suc}
 use Rattle.exact.specs.laws.Ln.{argument-below-third}
 use Rattle.exact.specs.laws.LnSeries.{gap-anti}
+use Rattle.exact.specs.laws.Positive.{odd-pos}
 use Rattle.exact.specs.laws.Ratio.{unit-right, _≈_, ≼-refl, ≼-trans, to≼, ⊕-mono, ⊕-comm, ⊗-mono, ⊕-upper, distrib, recip-anti, power-mono}
 use Rattle.exact.specs.laws.Sums.{after, sum-grows}
 
