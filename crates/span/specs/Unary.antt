@@ -4,13 +4,13 @@ use Prim.Native.Nat.{ℕ}
 use mathlib.Core.Path.{_≡_, sym, subst₂}
 use mathlib.Core.Option.{Option, none, some}
 use Rattle.exact.specs.Fraction.{Frac, _⊑_, Positive}
-use Rattle.exact.specs.laws.Decide.{decPositive}
+use Rattle.exact.specs.laws.Decide.{decPositives, decided}
 use Rattle.exact.specs.laws.Frac.{positive-mono}
 use Rattle.exact.specs.Bracket.{Bracket, _∈_}
 use Rattle.exact.specs.laws.Pairs.{lo-in, hi-in}
 use Rattle.exact.specs.Ends.{lnLowerAt, lnUpperAt, expLowerAt, expUpperAt}
-use Rattle.exact.specs.Formula.{Formula, ln, exp, bracketAt, _>>_, ends, lnIf, lnB, expB}
-use Rattle.exact.specs.laws.Meeting.{Meets, meeting}
+use Rattle.exact.specs.Formula.{Formula, ln, exp, bracketAt, lift, _>>_, lnB, expB}
+use Rattle.exact.specs.laws.Meeting.{ends, Meets, meeting}
 use Rattle.exact.specs.laws.Containment.{Inside}
 
 -- the n-th ends of ln p lie in K
@@ -29,14 +29,12 @@ pub record ExpWithin (p : Frac) (n : ℕ) (K : Bracket) : Type 0 where
 
 ln-over : (n : ℕ) (x : Option Bracket) {I K : Bracket} → Meets x x → Inside x (some I) → Positive (I .lo)
     → ((p : Frac) → p ∈ I → (z : Positive p) → LnWithin p z n K) → Inside (x >> lnB n) (some K)
-unfolding _>>_ lnB lnIf
+unfolding _>>_ lnB
 ln-over n none w h z r = h
-ln-over n (some A) {I} {K} w h z r = go (decPositive (A .lo)) (decPositive (A .hi))
-  where
-    go : (d : Dec (Positive (A .lo))) (e : Dec (Positive (A .hi))) → Inside (lnIf n A d e) (some K)
-    go (yes d) (yes e) = record { above = r _ (lo-in h w) d .above; below = r _ (hi-in h w) e .below }
-    go (yes d) (no e) = absurd (e (positive-mono d w))
-    go (no d) e = absurd (d (positive-mono z (h .above)))
+ln-over n (some A) {K = K} w h z r =
+    decided (λ o. Inside o (some K)) (decPositives (A .lo) (A .hi))
+    (λ d. record { above = r _ (lo-in h w) (d .0) .above; below = r _ (hi-in h w) (d .1) .below })
+    λ d. let p = positive-mono z (h .above) in d (p, positive-mono p w)
 
 pub ln-encloses : (x : Formula) (n : ℕ) {I K : Bracket} → Inside (bracketAt x n) (some I) → Positive (I .lo)
     → ((p : Frac) → p ∈ I → (z : Positive p) → LnWithin p z n K) → Inside (bracketAt (ln x) n) (some K)
@@ -45,7 +43,7 @@ ln-encloses x n h z r = ln-over n (bracketAt x n) (meeting x n n) h z r
 
 exp-over : (n : ℕ) (x : Option Bracket) {I K : Bracket} → Meets x x → Inside x (some I)
     → ((p : Frac) → p ∈ I → ExpWithin p n K) → Inside (x >> expB n) (some K)
-unfolding _>>_ expB ends
+unfolding expB lift _>>_
 exp-over n none w h r = h
 exp-over n (some A) {I} {K} w h r =
     let s = r _ (lo-in h w) in

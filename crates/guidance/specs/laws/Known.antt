@@ -2,18 +2,19 @@
 use Prim.Native.Nat.{ℕ, _+_, _-_}
 use mathlib.Core.Path.{_≡_, refl}
 use mathlib.Core.Bool.{Bool, true}
+use mathlib.Core.Logic.{Dec·and}
 use mathlib.Core.Option.{Option, none, some}
 use native.Mathlib.Decide.{decLe}
 use native.Mathlib.Omega.{arith}
 use Rattle.exact.specs.Fraction.{Ratio, whole, _⊕_, _⊖_, _⊗_, recip, power, sum, ofRatio, zeroF, oneF, magnitude, _⊞_, neg, _⊟_, _⊠_, inverse}
 use Rattle.exact.specs.Bracket.{Bracket, _∈_, overPairs, quotients, smaller, larger}
 use Rattle.exact.specs.Series.{oneOver, even, lnTerm, gap, lnTail, seriesLower, seriesUpper, climb, exponent, fraction, argument, third, factorial, expTerm, expLower, expTail, expUpper}
-use Rattle.exact.specs.Ends.{ln2Lower, ln2Upper, lnLower, lnUpper, lnLowerBy, lnUpperBy, lnLowerAt, lnUpperAt, expUpperIf, expUpperOf, oneOverIf, oneOverOf, signed, expLowerBy, expUpperBy, expLowerAt, expUpperAt}
-use Rattle.exact.specs.Formula.{Formula, bracketAt, lift, _>>_, ends, quotientIf, quotientB, lnIf, lnB, expB}
+use Rattle.exact.specs.Ends.{ln2Lower, ln2Upper, lnLower, lnUpper, lnLowerAt, lnUpperAt, expUpperOf, oneOverOf, expLowerAt, expUpperAt}
+use Rattle.exact.specs.Formula.{Formula, bracketAt, lift, _>>_, quotientB, lnB, expB}
 use Rattle.exact.specs.Exact.{Holds}
 use Rattle.exact.specs.laws.Frac.{⊑-trans}
 use Rattle.exact.specs.laws.Containment.{Inside, inside, inside-true, contains-holds}
-use Rattle.exact.specs.laws.Decide.{decAbove0, decF, decPositive}
+use Rattle.exact.specs.laws.Decide.{decAbove0, decF, decPositive, decPositives}
 use Rattle.guidance.specs.declared.Case.{Case}
 use Rattle.guidance.specs.Substances.{betas, betaOf, classOf, heatOf}
 use Rattle.guidance.specs.Clouds.{atLeast1, rangeOf, groundFactor, leanBy, leanFactor, aerosolFactor, energy}
@@ -48,7 +49,7 @@ record Pressures : Type 0 where
   heterogeneous : bracketIs (overpressure standardAir (q 1 100)) (tenths 288705) ≡ true
 
 pressures : Pressures
-unfolding bracketIs overpressure reducedPressure detonationPressure nearField reducedDistance aerosolPressure gasPressure nearer farther less cubed metres cube02 cube025 energy groundFactor leanFactor leanBy aerosolFactor heatOf rangeOf classOf atLeast1 inside bracketAt lift _>>_ ends quotientIf quotientB lnIf lnB expB overPairs quotients smaller larger decF decPositive decAbove0 decLe lnLowerAt lnUpperAt lnLowerBy lnUpperBy lnLower lnUpper ln2Lower ln2Upper exponent climb fraction argument third seriesLower seriesUpper lnTerm lnTail gap oneOver even expLowerAt expUpperAt expLowerBy expUpperBy expUpperIf expUpperOf oneOverIf oneOverOf signed expLower expUpper expTerm expTail factorial power sum recip whole _⊕_ _⊗_ _⊖_ ofRatio zeroF oneF magnitude _⊞_ neg _⊟_ _⊠_ inverse
+unfolding bracketIs overpressure reducedPressure detonationPressure nearField reducedDistance aerosolPressure gasPressure nearer farther less cubed metres cube02 cube025 energy groundFactor leanFactor leanBy aerosolFactor heatOf rangeOf classOf atLeast1 inside bracketAt lift _>>_ quotientB lnB expB overPairs quotients smaller larger decF decPositive decPositives Dec·and decAbove0 decLe lnLowerAt lnUpperAt lnLower lnUpper ln2Lower ln2Upper exponent climb fraction argument third seriesLower seriesUpper lnTerm lnTail gap oneOver even expLowerAt expUpperAt expUpperOf oneOverOf expLower expUpper expTerm expTail factorial power sum recip whole _⊕_ _⊗_ _⊖_ ofRatio zeroF oneF magnitude _⊞_ neg _⊟_ _⊠_ inverse
 pressures = record { gas = refl; reduced = refl; heterogeneous = refl }
 
 range-of : (c : Case) {class surroundings : ℕ} → classOf (c .substance) ≡ class → c .surroundings ≡ surroundings → rangeOf c ≡ atLeast1 (class + surroundings - 2)
