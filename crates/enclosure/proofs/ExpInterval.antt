@@ -14,7 +14,8 @@ use Rattle.exact.specs.laws.Frac.{⊑-refl, ⊑-trans, ⊠-mono}
 use Rattle.exact.specs.Bracket.{Bracket, _∈_}
 use Rattle.exact.specs.laws.EndsMeet.{ofRatio-mono, Below, exp-below}
 use Rattle.exact.specs.Ends.{expLowerAt, expUpperAt}
-use Rattle.exact.specs.Formula.{ends, expB}
+use Rattle.exact.specs.Formula.{lift, _>>_, expB}
+use Rattle.exact.specs.laws.Meeting.{ends}
 use Rattle.exact.specs.laws.Containment.{Inside, exp-isotone}
 use Rattle.exact.specs.laws.Points.{point, pair, signed-above, signed-product, product-signed}
 use Rattle.exact.specs.laws.Reduction.{most-upper, least-one, room, LowerEnd, lower-from, lower-from-negative}
@@ -75,7 +76,7 @@ module _ {x r : Span} {d : ℕ} (m : Normal x) (s : d ≤ 2 ^ 28) (w : Lowered x
 
 -- what is in the bracket of the ends
 within : (p : Frac) (n : ℕ) {K : Bracket} (c d : Option Frac) → expLowerAt p n ≡ c → expUpperAt p n ≡ d → Inside (ends c d) (some K) → ExpWithin p n K
-unfolding ends
+unfolding lift _>>_
 within p n none d e f h = absurd h
 within p n (some a) none e f h = absurd h
 within p n (some a) (some b) e f h = record { lower = a; upper = b; lower-is = e; upper-is = f; above = h .above; below = h .below }
@@ -103,7 +104,7 @@ module _ (s : Frac) (i j d : ℕ) {x r : Span} (l : s ⊑ fixed i j) (a : fixed 
   high-same = record { cross = rw (w .e) (rw (w .hi) (omega arith)) }
 
   pub points : (p : Frac) → p ∈ pair s t → (n : ℕ) → enough ≤ n → ExpWithin p n (hull r)
-  unfolding hull units low high ofRatio expB ends
+  unfolding hull units low high ofRatio expB lift _>>_
   points p m zero g = absurd (omega arith)
   points p m (suc k) g =
       let L = lower-there s 513 (suc k) u (omega arith) in

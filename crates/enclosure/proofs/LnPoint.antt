@@ -6,12 +6,15 @@ use native.Mathlib.Decide.{decLe}
 use native.Mathlib.Omega.{arith}
 use Rattle.exact.specs.Fraction.{Ratio, _≼_, Above0, whole, _⊕_, _⊗_, _⊖_, recip, _⊑_, Positive, ofRatio, neg, magnitude, oneF}
 use Rattle.exact.specs.laws.Ratio.{_≈_, ≼-refl, ≼-trans, to≼, from≼, ⊕-mono, above-mono}
-use Rattle.exact.specs.Series.{gap, argument, two-pow-pos}
+use Rattle.exact.specs.Series.{gap, argument}
+use Rattle.exact.specs.laws.Positive.{two-pow-pos}
 use Rattle.exact.specs.laws.LnSeries.{gap-anti, series-lower-mono, series-upper-mono}
 use Rattle.exact.specs.laws.Divisors.{gap-argument, magnitude-above, one-magnitude, one-recip}
-use Rattle.exact.specs.Ends.{lnLower, lnUpper, lnLowerBy, lnUpperBy, lnLowerAt, lnUpperAt}
-use Rattle.exact.specs.laws.Fixed.{Lower, Upper, lower-sum, upper-sum}
+use Rattle.exact.specs.Ends.{lnLower, lnUpper}
 use Rattle.exact.specs.laws.Decide.{decF}
+use Rattle.exact.specs.laws.Fixed.{Lower, Upper, lower-sum, upper-sum}
+use Rattle.exact.specs.laws.Frac.{⊑-trans}
+use Rattle.exact.specs.laws.Points.{ln-low-above, ln-high-above, ln-low-below, ln-high-below}
 use Rattle.span.specs.Spans.{unit, unit-positive, units}
 use Rattle.span.specs.Unary.{LnWithin}
 use Rattle.span.specs.Powers.{powers}
@@ -102,16 +105,14 @@ split-above v m k e = let s : v - 0 ≡ v = omega arith in rw s e
 
 pub above-one : (v m k r : ℕ) → 2 ^ 30 ≤ m → m ≤ 2 ^ 31 → v * 2 ^ 30 ≡ 2 ^ k * m * unit → Octaves k (m - 2 ^ 30) (m + 2 ^ 30) r
     → (z : Positive (units v)) (n : ℕ) → 20 ≤ n → LnWithin (units v) z n (biasedPair (2 ^ 40 + r) (2 ^ 40 + r + 15))
-unfolding lnLowerAt lnUpperAt lnLowerBy lnUpperBy biasedPair
-above-one v m k r l h e d z n b = record { above = low (decF oneF (units v)); below = high (decF oneF (units v)) }
-  where
-    low : (c : Dec (oneF ⊑ units v)) → biased (2 ^ 40 + r) ⊑ lnLowerBy (units v) z c n
-    low (yes i) = lower-fixed (point-low (magnitude (units v)) m (2 ^ 30) k r (omega arith) l (omega arith) (one-magnitude i) (split-above v m k e) d n b)
-    low (no i) = absurd (i (from-one v m k l e))
-
-    high : (c : Dec (oneF ⊑ units v)) → lnUpperBy (units v) z c n ⊑ biased (2 ^ 40 + r + 15)
-    high (yes i) = upper-fixed r (point-high (magnitude (units v)) m (2 ^ 30) k r (omega arith) l (omega arith) (one-magnitude i) (split-above v m k e) d (one-magnitude i) n b)
-    high (no i) = absurd (i (from-one v m k l e))
+unfolding biasedPair
+above-one v m k r l h e d z n b =
+    let o = from-one v m k l e in
+    let p = one-magnitude o in
+    record {
+      above = ⊑-trans (lower-fixed (point-low _ m (2 ^ 30) k r (omega arith) l (omega arith) p (split-above v m k e) d n b)) (ln-low-above (units v) o n z);
+      below = ⊑-trans (ln-high-above (units v) o n z) (upper-fixed r (point-high _ m (2 ^ 30) k r (omega arith) l (omega arith) p (split-above v m k e) d p n b));
+    }
 
 -- below 1
 split-below : (v m k : ℕ) (g : Above0 (magnitude (units v))) → unit * m ≡ 2 ^ k * 2 ^ 31 * v → recip (magnitude (units v)) g .num * m ≡ 2 ^ k * 2 ^ 31 * recip (magnitude (units v)) g .den
@@ -167,22 +168,24 @@ upper-none r h {x} e q l = let s : h + 15 ≡ 2 ^ 40 = omega arith in rw s (reco
 
 pub below-one : (v m k r h : ℕ) → 2 ^ 30 ≤ m → m ≤ 2 ^ 31 → unit * m ≡ 2 ^ k * 2 ^ 31 * v → h + (r + 15) ≡ 2 ^ 40
     → Octaves k (2 ^ 31 - m) (2 ^ 31 + m) r → (z : Positive (units v)) (n : ℕ) → 20 ≤ n → LnWithin (units v) z n (biasedPair h (h + 15))
-unfolding lnLowerAt lnUpperAt lnLowerBy lnUpperBy biasedPair
-below-one v m k r h l u e q d z n b = record { above = low (decF oneF (units v)); below = high (decF oneF (units v)) }
+unfolding biasedPair
+below-one v m k r h l u e q d z n b = go (decF oneF (units v))
   where
-    low : (c : Dec (oneF ⊑ units v)) → biased h ⊑ lnLowerBy (units v) z c n
-    low (yes i) = lower-none r h _ q
-    low (no i) =
-        let o = one-recip (units v) (magnitude-above (units v) z) i in
-        lower-negated r h q (point-high _ (2 ^ 31) m k r (omega arith) u (omega arith) o (split-below v m k _ e) d o n b)
-
-    high : (c : Dec (oneF ⊑ units v)) → lnUpperBy (units v) z c n ⊑ biased (h + 15)
-    high (yes i) =
+    go : Dec (oneF ⊑ units v) → LnWithin (units v) z n (biasedPair h (h + 15))
+    go (yes i) =
         let none : r ≡ 0 = nothing-left (omega arith) (no-octave v m k u e i) (no-rest v m k u e i) d in
-        upper-none r h q none (one-high _ (not-above v m k u e i) (one-magnitude i) n)
-    high (no i) =
-        let o = one-recip (units v) (magnitude-above (units v) z) i in
-        upper-negated r h q (point-low _ (2 ^ 31) m k r (omega arith) u (omega arith) o (split-below v m k _ e) d n b)
+        record {
+          above = ⊑-trans (lower-none r h _ q) (ln-low-above (units v) i n z);
+          below = ⊑-trans (ln-high-above (units v) i n z) (upper-none r h q none (one-high _ (not-above v m k u e i) (one-magnitude i) n));
+        }
+    go (no f) =
+        let a = magnitude-above (units v) z in
+        let o = one-recip (units v) a f in
+        let c = split-below v m k a e in
+        record {
+          above = ⊑-trans (lower-negated r h q (point-high _ (2 ^ 31) m k r (omega arith) u (omega arith) o c d o n b)) (ln-low-below (units v) f a o n z);
+          below = ⊑-trans (ln-high-below (units v) f a o n z) (upper-negated r h q (point-low _ (2 ^ 31) m k r (omega arith) u (omega arith) o c d n b));
+        }
 
 -- The exponents
 

@@ -7,7 +7,8 @@ use native.Mathlib.Decide.{decLe}
 use native.Mathlib.Omega.{arith}
 use Rattle.exact.specs.Fraction.{Ratio, _≼_, Above0, whole, _⊕_, _⊗_, _⊖_, recip, power}
 use Rattle.exact.specs.laws.Ratio.{_≈_, ≼-refl, ≼-trans, ⊕-mono, ⊗-mono, above-whole, nothing-times}
-use Rattle.exact.specs.Series.{oneOver, even, odd, odd-pos, lnTail, gap, seriesLower, seriesUpper, exponent, fraction, argument, third, two-pow-pos}
+use Rattle.exact.specs.Series.{oneOver, even, odd, lnTail, gap, seriesLower, seriesUpper, exponent, fraction, argument, third}
+use Rattle.exact.specs.laws.Positive.{odd-pos, two-pow-pos}
 use Rattle.exact.specs.laws.LnSeries.{series-lower-mono, series-upper-mono}
 use Rattle.exact.specs.laws.Ln.{exponent-low, exponent-high, argument-mono, argument-two, two-pow-times, whole-mono, ladder}
 use Rattle.exact.specs.laws.Divisors.{gap-third, gap-argument}

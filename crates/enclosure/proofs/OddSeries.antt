@@ -9,7 +9,8 @@ use Rattle.exact.specs.Fraction.{Ratio, _≼_, Above0, whole, _⊕_, _⊗_, pow
 use Rattle.exact.specs.laws.Ratio.{_≈_, ≼-refl, ≼-trans, ⊕-mono, ⊕-assoc, to≼, from≼, ⊗-mono}
 use Rattle.exact.specs.laws.Equal.{≈-refl, ≈-trans, ⊕-cong}
 use Rattle.exact.specs.laws.Sums.{after, after-is, sum-grows}
-use Rattle.exact.specs.Series.{oneOver, even, odd, odd-pos, lnTerm, gap, seriesLower, seriesUpper, third}
+use Rattle.exact.specs.Series.{oneOver, even, odd, lnTerm, gap, seriesLower, seriesUpper, third}
+use Rattle.exact.specs.laws.Positive.{odd-pos}
 use Rattle.exact.specs.laws.LnSeries.{even-is, series-lower-upper}
 use Rattle.exact.specs.laws.Width.{ninth, series-width}
 use Rattle.exact.specs.laws.Fixed.{Lower, Upper, lower-sum, upper-sum, lower-product, upper-product}

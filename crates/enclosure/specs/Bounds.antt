@@ -7,12 +7,12 @@ use native.Mathlib.Omega.{arith}
 use Rattle.exact.specs.Fraction.{Ratio, Frac, _⊑_, zeroF, ofRatio, magnitude}
 use Rattle.exact.specs.Series.{expLower}
 use Rattle.exact.specs.Bracket.{_∈_}
-use Rattle.exact.specs.Ends.{expLowerBy, expLowerAt, expUpperAt}
-use Rattle.exact.specs.laws.Decide.{decF}
+use Rattle.exact.specs.Ends.{expLowerAt, expUpperAt}
+use Rattle.exact.specs.laws.Decide.{decF, decided}
 use Rattle.exact.specs.laws.Ratio.{≼-refl, ≼-trans}
 use Rattle.exact.specs.laws.Frac.{⊑-refl, ⊑-trans}
 use Rattle.exact.specs.laws.Exp.{exp-lower-mono}
-use Rattle.exact.specs.laws.EndsMeet.{ofRatio-mono, Below, exp-below}
+use Rattle.exact.specs.laws.EndsMeet.{signed, ofRatio-mono, Below, exp-below}
 use Rattle.exact.specs.laws.Containment.{AtMost, exp-lower-end}
 use Rattle.exact.specs.laws.Points.{signed-above, signed-most, signed-least}
 use Rattle.exact.specs.laws.Reduction.{Most, Least, LowerEnd, UpperEnd, least-mono, lower-from}
@@ -78,12 +78,11 @@ module _ {y : Log} {r : Span} (o : Ordered y) (e : Exponential y r) where
 
 -- the N-th lower end is no higher than a bound of all sums
 lower-capped : {c U : Ratio} → Most c U → (n : ℕ) → UpperEnd (expLowerAt (ofRatio c) n) U
-unfolding expLowerAt expLowerBy
-lower-capped {c} {U} h n = go (decF zeroF (ofRatio c))
-  where
-    go : (d : Dec (zeroF ⊑ ofRatio c)) → UpperEnd (expLowerBy (ofRatio c) d n) U
-    go (yes i) = record { end = ofRatio (expLower (magnitude (ofRatio c)) n); is = refl; bound = ofRatio-mono (≼-trans (exp-lower-mono (signed-most c) n) (h .all n)) }
-    go (no i) = absurd (i (signed-above c))
+unfolding expLowerAt
+lower-capped {c} {U} h n =
+    decided (λ o. UpperEnd (signed o) U) (decF zeroF (ofRatio c))
+    (λ i. record { end = ofRatio (expLower (magnitude (ofRatio c)) n); is = refl; bound = ofRatio-mono (≼-trans (exp-lower-mono (signed-most c) n) (h .all n)) })
+    (λ i. absurd (i (signed-above c)))
 
 module _ {y : Log} {r : Span} (o : Ordered y) (e : Exponential y r) (k : ℕ) {W : ℕ} (n : Narrow y W) (s : suc k * (W + 30) ≤ 2 ^ 30) where
   pub expo-most-sum : {c U : Ratio} → fixedZ (y .hi) ⊑ ofRatio c → Most c U → k * (r .hi * 2 ^ r .e * U .den) ≤ suc k * (U .num * unit)
