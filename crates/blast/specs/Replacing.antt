@@ -2,15 +2,14 @@
 -- over constants serves for a formula that comes to one. Assumes nothing.
 use Prim.Native.Nat.{ℕ, suc}
 use mathlib.Core.Option.{Option, none, some}
-use Rattle.exact.specs.Fraction.{Frac, Positive, _⊑_}
+use Rattle.exact.specs.Fraction.{Frac, _⊑_}
 use Rattle.exact.specs.Bracket.{Bracket}
-use Rattle.exact.specs.Formula.{Formula, const, mul, div, ln, exp, bracketAt, _>>_, quotientB, quotientIf, lnB, expB}
-use Rattle.exact.specs.laws.Decide.{decPositive}
+use Rattle.exact.specs.Formula.{Formula, const, mul, div, ln, exp, bracketAt, lnB, expB}
 use Rattle.exact.specs.laws.Frac.{⊑-refl, ⊑-trans}
-use Rattle.exact.specs.laws.Pairs.{⊠-monotone, quotients-hold}
-use Rattle.exact.specs.laws.Meeting.{Meets, meeting}
+use Rattle.exact.specs.laws.Pairs.{⊠-monotone}
+use Rattle.exact.specs.laws.Meeting.{meeting}
 use Rattle.exact.specs.laws.Containment.{Inside, pairs-inside, then-inside, ln-isotone, exp-isotone}
-use Rattle.exact.specs.laws.Steps.{binary-quotient}
+use Rattle.exact.specs.laws.Nesting.{quotients-inside}
 
 -- the n-th bracket of x lies in that of y
 pub record Within (x y : Formula) (n : ℕ) : Type 0 where
@@ -31,18 +30,6 @@ pub mul-within : {x y u v : Formula} {n : ℕ} → Within x u n → Within y v n
 unfolding bracketAt
 mul-within {x} {y} {u} {v} {n} h k =
     record { inside = pairs-inside ⊠-monotone (bracketAt x n) (bracketAt y n) (bracketAt u n) (bracketAt v n) (meeting x n n) (meeting y n n) (h .inside) (k .inside) }
-
-quotients-inside : (x y u v : Option Bracket) → Meets x x → Meets y y → Inside x u → Inside y v
-    → Inside (x >> (λ (A : Bracket). y >> quotientB A)) (u >> (λ (A : Bracket). v >> quotientB A))
-unfolding _>>_ quotientB quotientIf
-quotients-inside x y none v i j h k = tt
-quotients-inside x y (some I) none i j h k = tt
-quotients-inside x y (some I) (some J) i j h k = go (decPositive (J .lo)) (decPositive (J .hi))
-  where
-    go : (d : Dec (Positive (J .lo))) (e : Dec (Positive (J .hi))) → Inside (x >> (λ (A : Bracket). y >> quotientB A)) (quotientIf I J d e)
-    go (yes d) (yes e) = binary-quotient x y i j h k d λ p q m n z. quotients-hold m n z d e
-    go (yes d) (no e) = tt
-    go (no d) e = tt
 
 pub div-within : {x y u v : Formula} {n : ℕ} → Within x u n → Within y v n → Within (div x y) (div u v) n
 unfolding bracketAt
