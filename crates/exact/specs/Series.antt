@@ -34,11 +34,10 @@ unfoldable pub climb : ℕ → ℕ → ℕ → ℕ
 climb zero q p = 0
 climb (suc n) q p = elim (decLe (2 * q) p) [ yes h ↦ suc (climb n (2 * q) p) | no h ↦ 0 ]
 
--- item 1: k of t = 2^k·f with 1 ≤ f < 2, for t ≥ 1
+-- item 1: k, and then f, of t = 2^k·f with 1 ≤ f < 2, for t ≥ 1
 unfoldable pub exponent : Ratio → ℕ
 exponent t = climb (t .num) (t .den) (t .num)
 
--- f
 unfoldable pub fraction : Ratio → Ratio
 fraction t = t ⊗ oneOver (2 ^ exponent t) (two-pow-pos (exponent t))
 

@@ -86,7 +86,7 @@ pub recip-below-one : (x : Ratio) (h : Above0 x) → whole 1 ≼ x → recip x h
 unfolding whole recip
 recip-below-one x h l = omega arith
 
--- both ends come out of decisions: as fractions from 0 up, the first is at most the second
+-- the same of fractions from 0 up
 abbrev BelowOf : Option Ratio → Option Ratio → Type 0
 BelowOf x y = Below (signed x) (signed y)
 
