@@ -1,11 +1,9 @@
 -- The numbers of an answer, from what the wave and the probits promise. Assumes nothing.
-use mathlib.Core.Path.{_≡_}
-use Prim.Native.Nat.{ℕ, _^_, _≤_, _<_}
+use Prim.Native.Nat.{_^_}
 use native.Mathlib.Nat.{le-refl}
 use native.Mathlib.Omega.{arith}
 use Rattle.exact.specs.Formula.{Formula}
 use Rattle.exact.specs.laws.Meeting.{any-two-meet}
-use Rattle.span.specs.declared.Span.{Span}
 use Rattle.span.specs.Enclosing.{Encloses}
 use Rattle.enclosure.specs.Promises.{enough}
 use Rattle.guidance.specs.declared.Case.{Case}

@@ -9,7 +9,6 @@ use lib.ListN.{length, take, drop}
 use lib.Seq.{sets, sets-eq, length-sets, take-at, drop-at}
 use lib.Signed.{mag}
 use Rattle.guidance.specs.declared.Case.{Case}
-use Rattle.guidance.specs.Clouds.{rangeOf}
 use Rattle.fixed.specs.Signed.{up, dn}
 use Rattle.layout.specs.declared.Probit.{Probit}
 use Rattle.layout.specs.Bytes.{two, four, words, signeds, halves}

@@ -8,8 +8,6 @@ use Rattle.guidance.specs.Cases.{Accepted}
 use Rattle.guidance.specs.Clouds.{rangeOf}
 use Rattle.guidance.specs.Waves.{standardAir, overpressure, impulse}
 use Rattle.guidance.specs.Probits.{probit1, probit2, probit3, probit4, probit5}
-use Rattle.layout.specs.declared.Ends.{Ends}
-use Rattle.layout.specs.declared.Probits.{Probits}
 use Rattle.answer.specs.declared.Figures.{Figures}
 use Rattle.answer.specs.Answer.{WaveEnds, ProbitEnds}
 

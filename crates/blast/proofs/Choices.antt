@@ -10,7 +10,7 @@ use Rattle.span.specs.Spans.{Constant}
 use Rattle.span.specs.Enclosing.{constant-encloses, wider}
 use Rattle.guidance.specs.Choice.{pick}
 use Rattle.guidance.specs.Waves.{number}
-use Rattle.waves.specs.Coefficients.{coefficient}
+use Rattle.span.specs.Constants.{coefficient}
 use Rattle.blast.specs.Promises.{Enclosure}
 use Rattle.blast.specs.Steps.{Image}
 

@@ -1,6 +1,6 @@
 -- The deflagration figures, the smaller of two, and ΔP and I from the reduced figures. Assumes nothing.
 use Prim.Native.Nat.{ℕ, _≤_, _<_}
-use mathlib.Core.Path.{_≡_, sym, subst, subst⁻¹, ap, _∙_}
+use mathlib.Core.Path.{_≡_, sym, subst⁻¹, ap, _∙_}
 use mathlib.Core.Bool.{true, false}
 use native.Mathlib.Omega.{arith}
 use borrow.Author.Tests.{lt-ltb, le-ltb}

@@ -23,7 +23,7 @@ use Rattle.guidance.specs.Distances.{metres, nearer, cube02, cube025, cube034, 
 use Rattle.guidance.specs.Waves.{number, raised, thousandths, reducedDistance}
 use Rattle.guidance.specs.Cases.{Air, Accepted}
 use Rattle.guidance.specs.laws.Domain.{heated, air-above, perAir, perAir-above, perAir-least, perAir-most, cube-least, cube-most, cube-is-02, cube-is-025, cube-is-034, cube-is-24}
-use Rattle.blast.specs.Replacing.{Within, const-within, within-refl, mul-within, div-within, ln-within, exp-within, within-inside}
+use Rattle.exact.specs.laws.Replacing.{Within, const-within, within-refl, mul-within, div-within, ln-within, exp-within, within-inside}
 
 -- E/P0 is a fraction
 

@@ -1,6 +1,5 @@
 pub mod Promises
 pub mod Steps
-pub mod Replacing
 pub mod Distance
 pub mod Windows
 pub mod Exponents

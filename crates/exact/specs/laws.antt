@@ -31,3 +31,4 @@ pub mod ByTwo
 pub mod Points
 pub mod PowerEnds
 pub mod Quotient
+pub mod Replacing

@@ -1,6 +1,6 @@
 -- The bytes that a line of hexadecimal digits spells, either letter case (document 01, "The case frame").
 use Prim.Native.Nat.{ℕ, _+_, _*_, _-_}
-use mathlib.Core.Bool.{Bool, true, false, _&&_}
+use mathlib.Core.Bool.{Bool, true, _&&_}
 use mathlib.Core.List.{List, [], _∷_}
 use lib.Dec.{leb, ltb}
 use Rattle.guidance.specs.Choice.{pick}

@@ -4,7 +4,7 @@ ghost use mathlib.Core.Bool.{_||_};
 ghost use Prim.Native.Nat.{_+_, _<_};
 ghost use lib.ListN.{length};
 ghost use Rattle.frame.specs.Refusals.{number};
-ghost use Rattle.frame.specs.Bytes.{oneAt, twoAt, fourAt, fieldsOf};
+ghost use Rattle.frame.specs.Bytes.{twoAt, fourAt, fieldsOf};
 ghost use Rattle.frame.specs.Digits.{within, digitOf};
 ghost use Rattle.frame.specs.Spelling.{Sized, Spelled};
 ghost use Rattle.frame.specs.laws.Tests.{caseVerdict};

@@ -1,5 +1,4 @@
 // The test program: the known cases of document 01 that are not proved, the printed examples, and a separate high-precision calculation held against the answers.
-ghost use mathlib.Core.Path.{_≡_};
 ghost use Prim.Native.Nat.{_+_, _≤_, _<_};
 ghost use lib.ListN.{length};
 ghost use Rattle.io.specs.Counts.{Counts};

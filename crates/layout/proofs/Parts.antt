@@ -1,10 +1,10 @@
 -- Stores through a part of a slice, said of the whole. Assumes nothing.
-use mathlib.Core.Path.{_≡_, sym, ap, _∙_}
+use mathlib.Core.Path.{_≡_, ap, _∙_}
 use mathlib.Core.List.{List, [], _∷_, _++_, append-nil, append-assoc}
-use Prim.Native.Nat.{ℕ, zero, suc, _+_, _*_, _-_, _≤_}
+use Prim.Native.Nat.{ℕ, suc, _+_, _*_, _-_, _≤_}
 use native.Mathlib.Nat.{le-of-eq, zero-add, add-zero, add-suc, suc-add}
 use native.Mathlib.Omega.{arith}
-use lib.ListN.{length, take, drop, set, length-drop, length-append}
+use lib.ListN.{length, drop, set, length-drop, length-append}
 use lib.Seq.{sets, sets-eq, length-sets, take-all, drop-length, drop-drop}
 use borrow.Rule.Slice.PartMut.{midOf, postOf, putMid}
 

@@ -3,7 +3,6 @@ use Prim.Native.Nat.{ℕ, _^_}
 use mathlib.Core.Path.{_≡_}
 use mathlib.Core.List.{List}
 use Rattle.guidance.specs.Waves.{standardAir, overpressure}
-use Rattle.layout.specs.declared.Ends.{Ends}
 use Rattle.frame.specs.declared.Verdict.{Verdict}
 use Rattle.frame.specs.declared.Verdict.the-variants.{Accepted, Refused}
 use Rattle.frame.specs.Refusals.{number}

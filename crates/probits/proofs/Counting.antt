@@ -1,6 +1,6 @@
 -- From a logarithm to whole thousandths: 5 - (k/10000) ln s, and -12.6 + 1.524 ln ΔP. Assumes nothing.
 use mathlib.Core.Path.{_≡_}
-use Prim.Native.Nat.{ℕ, _+_, _*_, _^_, _≤_, _<_}
+use Prim.Native.Nat.{ℕ, _+_, _*_, _^_}
 use native.Mathlib.Omega.{arith}
 use lib.IntN.{ℤ, pos, negsuc}
 use Rattle.span.specs.declared.Span.{Span}
@@ -13,7 +13,7 @@ use Rattle.signed.specs.Reading.{R}
 use Rattle.fixed.proofs.Words.{own}
 use Rattle.fixed.specs.Thousandths.{thousandths, millis-hold}
 use Rattle.fixed.specs.Enclosing.{constant-encloses, sum-encloses, difference-encloses, scaled-encloses, ratio-value, wider, larger}
-use Rattle.enclosure.specs.Promises.{enough, reach, Loggable, Logarithm}
+use Rattle.enclosure.specs.Promises.{reach, Loggable, Logarithm}
 use Rattle.enclosure.specs.Enclosing.{logarithm-encloses, logarithm-small}
 use Rattle.guidance.specs.Waves.{thousandths as thousandthParts}
 use Rattle.guidance.specs.Probits.{probit4At}

@@ -1,13 +1,13 @@
 -- One line taken, or the rest of a part. Assumes nothing.
 use Prim.Native.Nat.{ℕ, _+_, _≤_, _<_}
-use mathlib.Core.Path.{_≡_, refl, sym, ap, _∙_}
+use mathlib.Core.Path.{_≡_, refl, ap, _∙_}
 use mathlib.Core.List.{List, _++_}
 use native.Mathlib.Nat.{add-zero}
 use native.Mathlib.Numerals.{add-one}
 use native.Mathlib.Omega.{arith}
 use lib.ListN.{length, take, drop}
 use lib.Arith.{lt-of-le-ne}
-use lib.Seq.{take-length, take-all, length-take-le, take-append-seam, drop-append-seam}
+use lib.Seq.{take-length, length-take-le, take-append-seam, drop-append-seam}
 use Rattle.text.specs.declared.Stream.{Stream}
 use Rattle.text.specs.Parts.{endOf, Held, Ends}
 use Rattle.text.specs.laws.Lines.{endOf-within, ended-characters, left-characters, ended-line, left-line}

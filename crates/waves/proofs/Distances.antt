@@ -1,6 +1,6 @@
 -- The exponents of a reduced distance and of a Mach number from their bounds, and what the operations ask of R, R² and R³.
 -- Assumes nothing.
-use Prim.Native.Nat.{ℕ, _+_, _*_, _^_, _≤_, _<_}
+use Prim.Native.Nat.{ℕ, _*_, _^_, _≤_, _<_}
 use native.Mathlib.Omega.{arith}
 use Rattle.span.specs.declared.Span.{Span}
 use Rattle.span.specs.Spans.{Normal, Width, Factors, Product, Divisible}

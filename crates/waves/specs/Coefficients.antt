@@ -1,32 +1,16 @@
 -- The coefficients of the wave formulas as the source writes them, each proved to hold the definition's number. Assumes nothing.
-use mathlib.Core.Path.{_≡_}
-use Prim.Native.Nat.{ℕ, _+_, _*_, _-_, _^_, _≤_}
+use Prim.Native.Nat.{_-_}
 use native.Mathlib.Omega.{arith}
 use lib.IntN.{negsuc}
 use Rattle.exact.specs.Fraction.{Ratio, whole, ofRatio, neg}
 use Rattle.span.specs.declared.Span.{Span}
-use Rattle.span.specs.Spans.{fraction, Normal, Constant}
-use Rattle.span.specs.Constants.{constant}
+use Rattle.span.specs.Spans.{Constant}
+use Rattle.span.specs.Constants.{coefficient}
 use Rattle.fixed.specs.declared.Log.{Log}
 use Rattle.fixed.specs.Promises.{LogConstant}
 use Rattle.fixed.specs.Enclosing.{negative-constant}
 use Rattle.guidance.specs.Clouds.{over}
 use Rattle.guidance.specs.Waves.{tenths, hundredths, thousandths, tenThousandths}
-
--- q between lo and hi in 2^-k
-pub record Between (q : Ratio) (lo hi e k : ℕ) : Type 0 where
-  pub scale : e + k ≡ 1024
-  pub below : lo * q .den ≤ q .num * 2 ^ k
-  pub above : q .num * 2 ^ k ≤ hi * q .den
-  pub close : hi ≤ lo + 1
-  pub least : 2 ^ 30 ≤ hi
-  pub most : hi ≤ 2 ^ 31
-  pub ordered : lo ≤ hi
-
-pub coefficient : (q : Ratio) (lo hi e k : ℕ) → Between q lo hi e k → Constant (ofRatio q) e (record { lo = lo; hi = hi; e = e })
-unfolding ofRatio fraction
-coefficient q lo hi e k b =
-    constant (q .num) (q .den) (q .positive) lo hi e k (b .scale) (b .below) (b .above) (record { least = b .least; most = b .most; ordered = b .ordered }) (b .close)
 
 -- Heterogeneous detonation: 0.125, 0.137 and 0.023 of the pressure, 0.022 of the impulse
 

@@ -5,7 +5,7 @@ use Prim.Native.Nat.{ℕ, _+_, _*_, _^_, _≤_, _<_}
 use native.Mathlib.Nat.{mul-pos, mul-le-mul, mul-le-mul-right, le-of-mul-le-mul-right}
 use native.Mathlib.Omega.{arith}
 use lib.Pow.{pow-pos}
-use Rattle.exact.specs.Fraction.{Ratio, Frac, ofRatio, _⊞_, neg, _⊟_, _⊑_}
+use Rattle.exact.specs.Fraction.{Ratio, ofRatio, _⊞_, neg, _⊟_, _⊑_}
 use Rattle.exact.specs.Bracket.{Bracket, _∈_}
 use Rattle.exact.specs.Formula.{Formula, bracketAt}
 use Rattle.exact.specs.laws.Frac.{⊑-trans}

@@ -6,7 +6,7 @@ use lib.Dec.{eqb}
 use Rattle.exact.specs.Fraction.{Ratio, whole}
 use Rattle.exact.specs.Formula.{Formula, mul}
 use Rattle.span.specs.declared.Span.{Span}
-use Rattle.span.specs.Spans.{Normal, Width, Constant}
+use Rattle.span.specs.Spans.{Normal, Width}
 use Rattle.span.specs.Enclosing.{Encloses}
 use Rattle.enclosure.specs.Promises.{enough}
 use Rattle.guidance.specs.declared.Case.{Case}

@@ -1,9 +1,8 @@
 -- `answer::reading_of` meets its contract. Assumes nothing.
-use mathlib.Core.Path.{_≡_, ap, ap₂, _∙_}
+use mathlib.Core.Path.{ap, ap₂, _∙_}
 use Prim.Native.Nat.{ℕ}
 use Rattle.guidance.specs.Damage.{damage}
 use Rattle.signed.specs.Reading.{back}
-use Rattle.layout.specs.declared.Ends.{Ends}
 use Rattle.answer.specs.Answer.{reading}
 use borrow.Author.Needs.{needs}
 use Rattle.answer.proofs.reading_of.Statement.{statement}

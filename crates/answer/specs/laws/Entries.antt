@@ -1,10 +1,9 @@
 -- A line and the frame that it spells get the same answer; and the two damages of a probit are equal or neighbours. Assumes nothing.
-use mathlib.Core.Path.{_≡_, sym, _∙_}
+use mathlib.Core.Path.{_≡_, _∙_}
 use mathlib.Core.Bool.{true}
 use mathlib.Core.List.{List}
 use Prim.Native.Nat.{ℕ}
 use lib.ListN.{length}
-use Rattle.guidance.specs.declared.Case.{Case}
 use Rattle.guidance.specs.Damage.{damage, Neighbours}
 use Rattle.guidance.specs.laws.Readings.{neighbours}
 use Rattle.frame.specs.declared.Verdict.{Verdict}

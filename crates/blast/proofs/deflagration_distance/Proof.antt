@@ -2,7 +2,7 @@
 use mathlib.Core.Path.{sym, _∙_}
 use native.Mathlib.Omega.{arith}
 use Rattle.guidance.specs.Waves.{hundredths}
-use Rattle.waves.specs.Coefficients.{coefficient}
+use Rattle.span.specs.Constants.{coefficient}
 use Rattle.blast.proofs.Detonations.{placed}
 use Rattle.blast.proofs.Deflagrations.{nearest-distance, true-distance}
 use Rattle.blast.proofs.deflagration_distance.Statement.{statement}

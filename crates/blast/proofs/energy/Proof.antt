@@ -3,7 +3,7 @@ use native.Mathlib.Omega.{arith}
 use borrow.Author.Needs.{needs}
 use mathlib.Core.Bool.{true}
 use Rattle.guidance.specs.Words.{reduction}
-use Rattle.waves.specs.Coefficients.{coefficient}
+use Rattle.span.specs.Constants.{coefficient}
 use Rattle.blast.proofs.Joules.{quarters-factors, energy-plain, energy-reduced}
 use Rattle.blast.proofs.energy.Statement.{statement}
 use Rattle.blast.proofs.energy.Tie as tie

@@ -2,7 +2,7 @@
 use borrow.Author.Needs.{needs}
 use native.Mathlib.Omega.{arith}
 use Rattle.guidance.specs.Waves.{hundredths, thousandths}
-use Rattle.waves.specs.Coefficients.{coefficient}
+use Rattle.span.specs.Constants.{coefficient}
 use Rattle.blast.proofs.Detonations.{near-gas-distance, near-aerosol-result, near-gas-result}
 use Rattle.blast.proofs.near_impulse.Statement.{statement}
 use Rattle.blast.proofs.near_impulse.Tie as tie

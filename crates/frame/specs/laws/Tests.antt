@@ -1,10 +1,10 @@
 -- Laws of the tests: what is known of a case that passes them. Assumes nothing.
-use Prim.Native.Nat.{ℕ, zero, suc, _*_, _<_}
-use mathlib.Core.Path.{_≡_, refl, ap, sym, _∙_}
-use mathlib.Core.Bool.{Bool, true, false, not, _&&_, _||_}
+use Prim.Native.Nat.{ℕ, zero, suc, _*_}
+use mathlib.Core.Path.{_≡_, refl, sym, _∙_}
+use mathlib.Core.Bool.{false, _&&_, _||_}
 use native.Mathlib.Omega.{arith}
-use lib.Dec.{eqb, ltb}
-use borrow.Author.Tests.{eq-eqb, ne-eqb, eqb-false}
+use lib.Dec.{eqb}
+use borrow.Author.Tests.{ne-eqb, eqb-false}
 use Rattle.guidance.specs.declared.Case.{Case}
 use Rattle.guidance.specs.Substances.{betaOf, heatOf}
 use Rattle.guidance.specs.Cases.{Fields}

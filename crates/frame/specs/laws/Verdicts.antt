@@ -1,6 +1,6 @@
 -- Laws of the verdicts: when each is given, and what an accepted case satisfies. Assumes nothing.
 use Prim.Native.Nat.{ℕ, _≤_, _<_}
-use mathlib.Core.Path.{_≡_, refl, ap, sym, _∙_}
+use mathlib.Core.Path.{_≡_, refl, ap, sym}
 use mathlib.Core.Bool.{Bool, true, false, not, _&&_, _||_, and-false}
 use mathlib.Core.List.{List, [], _∷_}
 use native.Mathlib.Omega.{arith}
@@ -13,7 +13,6 @@ use Rattle.guidance.specs.Distances.{farther, cube24}
 use Rattle.guidance.specs.Waves.{standardAir}
 use Rattle.frame.specs.declared.Refusal.{Refusal}
 use Rattle.frame.specs.declared.Refusal.the-variants.{Length, Digit, Substance, Setting, Quantity, Heat, Beyond, Space}
-use Rattle.frame.specs.declared.Verdict.{Verdict}
 use Rattle.frame.specs.declared.Verdict.the-variants.{Accepted, Refused}
 use Rattle.frame.specs.Refusals.{number}
 use Rattle.frame.specs.Bytes.{fieldsOf}

@@ -11,7 +11,7 @@ use Rattle.guidance.specs.declared.Case.{Case}
 use Rattle.guidance.specs.declared.Cloud.{Cloud}
 use Rattle.guidance.specs.Choice.{pick}
 use Rattle.guidance.specs.Clouds.{over, energy}
-use Rattle.guidance.specs.Distances.{less, metres, cubed, nearer, farther, cube02, cube025, cube034, cube24, millionths}
+use Rattle.guidance.specs.Distances.{less, metres, cubed, nearer, farther, cube02, cube025, millionths}
 use Rattle.guidance.specs.Waves.{nearField}
 use Rattle.guidance.specs.Words.{CloudOf, reduction, weightOf, scaledBy}
 use Rattle.guidance.specs.laws.Order.{less-same, less-value, less-words}

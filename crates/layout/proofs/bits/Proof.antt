@@ -5,7 +5,6 @@ use Prim.Native.Nat.{ℕ, suc, _-_, _^_, _≤_, _<_}
 use native.Mathlib.Omega.{arith}
 use lib.IntN.{ℤ, pos, negsuc, subℕ, _+ℤ_}
 use borrow.Author.Tests.{le-ltb}
-use lib.Signed.{mag}
 use Rattle.layout.specs.Bytes.{twos}
 use Rattle.signed.specs.Reading.{R, step, Read, as-pos, as-neg}
 use Rattle.layout.proofs.bits.Statement.{statement}

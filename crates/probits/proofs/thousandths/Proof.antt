@@ -1,5 +1,5 @@
 -- `probits::thousandths` meets its contract. Assumes nothing.
-use mathlib.Core.Path.{_≡_, sym, subst₂}
+use mathlib.Core.Path.{sym, subst₂}
 use lib.IntN.{ℤ}
 use borrow.Author.Needs.{needs}
 use Rattle.probits.specs.Steps.{CountedIn}

@@ -1,5 +1,4 @@
 -- `waves::aerosol_impulse` meets its contract. Assumes nothing.
-use Prim.Native.Nat.{ℕ, _+_, _≤_}
 use native.Mathlib.Omega.{arith}
 use Rattle.span.specs.declared.Span.{Span}
 use Rattle.span.specs.Spans.{Quotient}

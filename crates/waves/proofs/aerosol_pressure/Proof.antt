@@ -1,6 +1,6 @@
 -- `waves::aerosol_pressure` meets its contract. The law stands over plain values: each hypothesis is what one call promises, its
 -- terms have the shape of the formula, and the needs only hand the promises over. Assumes nothing.
-use Prim.Native.Nat.{ℕ, _+_, _*_, _^_, _≤_}
+use Prim.Native.Nat.{ℕ, _+_, _*_}
 use native.Mathlib.Omega.{arith}
 use Rattle.span.specs.declared.Span.{Span}
 use Rattle.span.specs.Spans.{Width, Product, Quotient, Summands, Sum}

@@ -1,6 +1,6 @@
 -- `waves::deflagration_impulse` meets its contract: w is at most 3/2 and g at most 1, so that 0.4gw is at most six tenths.
 -- Assumes nothing.
-use Prim.Native.Nat.{ℕ, _+_, _*_, _^_, _≤_, _<_}
+use Prim.Native.Nat.{ℕ, _+_, _*_}
 use native.Mathlib.Omega.{arith}
 use Rattle.exact.specs.Fraction.{whole}
 use Rattle.span.specs.declared.Span.{Span}

@@ -1,5 +1,5 @@
 -- `waves::factor` meets its contract. Assumes nothing.
-use Prim.Native.Nat.{ℕ, _+_, _*_, _≤_}
+use Prim.Native.Nat.{ℕ, _≤_}
 use mathlib.Core.Path.{_≡_, sym, subst}
 use native.Mathlib.Omega.{arith}
 use lib.Dec.{eqb}
@@ -11,7 +11,7 @@ use Rattle.span.specs.Enclosing.{Encloses, constant-encloses}
 use Rattle.guidance.specs.Choice.{pick}
 use Rattle.guidance.specs.Waves.{number}
 use Rattle.waves.specs.Ends.{constant-lower, lower-coarser}
-use Rattle.waves.specs.Coefficients.{factor43, factor26, factor-43, factor-26}
+use Rattle.waves.specs.Coefficients.{factor-43, factor-26}
 use Rattle.waves.specs.Fronts.{Factor}
 use Rattle.waves.proofs.Choices.{picked, passed}
 use Rattle.waves.proofs.factor.Statement.{statement}

@@ -1,6 +1,6 @@
 -- `waves::gas_impulse` meets its contract. The size of e^ comes from one point of ln R, its upper end: there ln Ix is at most 1.25.
 -- Assumes nothing.
-use Prim.Native.Nat.{ℕ, _+_, _*_, _^_, _≤_, _<_}
+use Prim.Native.Nat.{ℕ, _+_, _*_, _^_}
 use native.Mathlib.Omega.{arith}
 use Rattle.span.specs.declared.Span.{Span}
 use Rattle.span.specs.Enclosing as spans
@@ -8,12 +8,12 @@ use Rattle.fixed.specs.declared.Log.{Log}
 use Rattle.fixed.specs.Logs.{Narrow, Small}
 use Rattle.fixed.specs.Promises.{Summands, LogDifference, LogProduct, Scaled}
 use Rattle.fixed.specs.Enclosing.{constant-encloses, difference-encloses, product-encloses, scaled-encloses, ratio-value, wider, larger}
-use Rattle.enclosure.specs.Promises.{octave, Exponent, Exponential}
+use Rattle.enclosure.specs.Promises.{Exponent, Exponential}
 use Rattle.enclosure.specs.Enclosing.{expo-encloses}
 use Rattle.guidance.specs.Waves.{thousandths, tenThousandths, gasImpulse}
 use Rattle.waves.specs.Coefficients.{impulseStart, impulse-start}
 use Rattle.waves.specs.Gas.{Logged, GasImpulse}
-use Rattle.waves.proofs.Exponents.{impulseAt, impulse-most, impulse-least, upper-point, upper-most, upper-least, scales, squares, square-small, square-scales, square-width}
+use Rattle.waves.proofs.Exponents.{impulse-most, impulse-least, upper-point, upper-most, upper-least, scales, squares, square-small, square-scales, square-width}
 use Rattle.waves.proofs.gas_impulse.Statement.{statement}
 use Rattle.waves.proofs.gas_impulse.Tie as tie
 

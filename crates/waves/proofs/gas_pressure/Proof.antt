@@ -1,6 +1,6 @@
 -- `waves::gas_pressure` meets its contract. The size of e^ comes from one point of ln R, its upper end: there ln Px is at most 2.4.
 -- Assumes nothing.
-use Prim.Native.Nat.{ℕ, _+_, _*_, _^_, _≤_, _<_}
+use Prim.Native.Nat.{ℕ, _+_, _*_, _^_}
 use native.Mathlib.Omega.{arith}
 use Rattle.span.specs.declared.Span.{Span}
 use Rattle.span.specs.Enclosing as spans
@@ -8,12 +8,12 @@ use Rattle.fixed.specs.declared.Log.{Log}
 use Rattle.fixed.specs.Logs.{Narrow, Small}
 use Rattle.fixed.specs.Promises.{Summands, LogSum, LogDifference, LogProduct, Scaled}
 use Rattle.fixed.specs.Enclosing.{constant-encloses, sum-encloses, difference-encloses, product-encloses, scaled-encloses, ratio-value, wider, larger}
-use Rattle.enclosure.specs.Promises.{octave, Exponent, Exponential}
+use Rattle.enclosure.specs.Promises.{Exponent, Exponential}
 use Rattle.enclosure.specs.Enclosing.{expo-encloses}
 use Rattle.guidance.specs.Waves.{hundredths, gasPressure}
 use Rattle.waves.specs.Coefficients.{pressureStart, pressure-start}
 use Rattle.waves.specs.Gas.{Near, GasPressure}
-use Rattle.waves.proofs.Exponents.{pressureAt, pressure-most, pressure-least, upper-point, upper-most, upper-least, scales, squares, square-small, square-scales, square-width}
+use Rattle.waves.proofs.Exponents.{pressure-most, pressure-least, upper-point, upper-most, upper-least, scales, squares, square-small, square-scales, square-width}
 use Rattle.waves.proofs.gas_pressure.Statement.{statement}
 use Rattle.waves.proofs.gas_pressure.Tie as tie
 

@@ -1,13 +1,13 @@
 -- `waves::log_distance` meets its contract. That ln R is from -1.67 up where R is from 0.19 up comes from the second bracket of
 -- ln (100/19), computed. Assumes nothing.
-use Prim.Native.Nat.{ℕ, _+_, _*_, _^_, _≤_, _<_}
+use Prim.Native.Nat.{_+_, _*_, _^_, _≤_}
 use native.Mathlib.Nat.{mul-pos}
 use native.Mathlib.Decide.{decLe}
 use native.Mathlib.Omega.{arith}
 use lib.Dec.{lit≤}
 use lib.IntN.{ℤ, pos, negsuc}
 use lib.Pow.{pow-pos}
-use Rattle.exact.specs.Fraction.{Ratio, _≼_, Above0, whole, _⊕_, _⊗_, _⊖_, recip, power, sum, Frac, _⊑_, Positive, ofRatio, oneF, magnitude, neg}
+use Rattle.exact.specs.Fraction.{_≼_, Above0, whole, _⊕_, _⊗_, _⊖_, recip, power, sum, Frac, _⊑_, Positive, ofRatio, oneF, magnitude, neg}
 use Rattle.exact.specs.Series.{oneOver, even, lnTerm, gap, lnTail, seriesUpper, climb, exponent, argument, third}
 use Rattle.exact.specs.Ends.{ln2Upper, lnUpper}
 use Rattle.exact.specs.laws.Frac.{⊑-trans, neg-anti}
@@ -24,7 +24,6 @@ use Rattle.fixed.specs.Logs.{up, dn, fixed, bracket}
 use Rattle.fixed.specs.Enclosing as logs
 use Rattle.enclosure.specs.Promises.{enough, Loggable, Logarithm}
 use Rattle.enclosure.specs.Enclosing.{logarithm-encloses, logarithm-small}
-use Rattle.guidance.specs.Clouds.{over}
 use Rattle.guidance.specs.Waves.{hundredths}
 use Rattle.waves.specs.Ends.{UpperAtLeast}
 use Rattle.waves.specs.Detonation.{Distance}

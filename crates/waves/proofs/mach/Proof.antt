@@ -1,5 +1,4 @@
 -- `waves::mach` meets its contract. Assumes nothing.
-use Prim.Native.Nat.{ℕ, _+_, _*_, _≤_}
 use native.Mathlib.Omega.{arith}
 use Rattle.exact.specs.Fraction.{whole}
 use Rattle.span.specs.declared.Span.{Span}

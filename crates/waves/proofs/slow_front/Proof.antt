@@ -1,5 +1,5 @@
 -- `waves::slow_front` meets its contract. Assumes nothing.
-use Prim.Native.Nat.{ℕ, _+_, _*_, _^_, _≤_, _<_}
+use Prim.Native.Nat.{ℕ}
 use native.Mathlib.Omega.{arith}
 use borrow.Author.Needs.{needs}
 use Rattle.span.specs.declared.Span.{Span}
