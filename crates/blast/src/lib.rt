@@ -320,7 +320,7 @@ fn pascal_seconds(c: Case, k: Cloud, air: u64, ix: Span) -> Span
 }
 
 // ΔP of an accepted case, in Pa.
-pub fn pressure_span(c: Case, k: Cloud, air: u64) -> Span
+fn pressure_span(c: Case, k: Cloud, air: u64) -> Span
     requires { ⌜ Ready c k air ⌝ }
     ensures { λ s. ⌜ PressureSpan air c s ⌝ }
 {
@@ -329,7 +329,7 @@ pub fn pressure_span(c: Case, k: Cloud, air: u64) -> Span
 }
 
 // I of an accepted case, in Pa·s.
-pub fn impulse_span(c: Case, k: Cloud, air: u64) -> Span
+fn impulse_span(c: Case, k: Cloud, air: u64) -> Span
     requires { ⌜ Ready c k air ⌝ }
     ensures { λ s. ⌜ ImpulseSpan air c s ⌝ }
 {

@@ -15,7 +15,7 @@ pub data Formula : Type 0 where
 abbrev pub wholePower : Formula → ℕ → Formula
 wholePower x zero = const oneF
 wholePower x (suc zero) = x
-wholePower x (suc (suc n)) = mul x (wholePower x (suc n))
+wholePower x (suc (suc n)) = mul (wholePower x (suc n)) x
 
 -- item 5: t^a, for any other a, and roots
 abbrev pub powerOf : Frac → Formula → Formula

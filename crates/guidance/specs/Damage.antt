@@ -35,7 +35,7 @@ notAbove (x ∷ xs) probit = pick (leb (10 * x) probit) (suc (notAbove xs probit
 unfoldable pub tenthsOfPercent : ℕ → ℕ
 tenthsOfPercent n = pick (leb n 99) (10 * n) (891 + n)
 
--- the greatest tabulated probability whose probit is not above; the table rises, so that many entries lead to it
+-- the greatest tabulated probability whose probit is not above: the table rises, so that it is that of the last entry counted (laws/Readings, `damage-is-greatest`)
 unfoldable pub damage : ℤ → ℕ
 damage (pos probit) = tenthsOfPercent (notAbove table probit)
 damage (negsuc n) = 0

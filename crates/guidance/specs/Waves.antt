@@ -4,7 +4,7 @@ use mathlib.Core.Bool.{Bool}
 use native.Mathlib.Omega.{arith}
 use lib.Dec.{eqb}
 use Rattle.exact.specs.Fraction.{Ratio, whole, ofRatio, neg}
-use Rattle.exact.specs.Formula.{Formula, powerOf, const, add, sub, mul, div, least, ln, exp}
+use Rattle.exact.specs.Formula.{Formula, powerOf, const, add, sub, mul, div, least, ln, exp, wholePower}
 use Rattle.guidance.specs.declared.Case.{Case}
 use Rattle.guidance.specs.Choice.{pick}
 use Rattle.guidance.specs.Clouds.{over, rangeOf, heterogeneous, deflagrates, energy}
@@ -47,10 +47,10 @@ sixth = over 1 6 (omega arith)
 
 -- whole powers are products
 abbrev pub square : Formula → Formula
-square x = mul x x
+square x = wholePower x 2
 
 abbrev pub cube : Formula → Formula
-cube x = mul (mul x x) x
+cube x = wholePower x 3
 
 -- P0 and C0
 abbrev pub standardAir : ℕ

@@ -135,6 +135,52 @@ past-table {p} h =
 pub table-count : (p : ℕ) → notAbove table p ≤ 108
 table-count p = rw table-length at (count-most table p)
 
+-- The reading is the greatest tabulated probability whose probit is not above
+
+-- the entries that are counted are those not above p
+within-count : (b : ℕ) (xs : List ℕ) (p : ℕ) → T (rises b xs) → (k : ℕ) → k < notAbove xs p → 10 * getD xs k 0 ≤ p
+within-count b [] p t k h = absurd (not-suc-le-zero h)
+within-count b (x ∷ xs) p t k h = go (within-count x xs p (rises-tail b x xs t)) k h (decLe (10 * x) p)
+  where
+    go : ((k : ℕ) → k < notAbove xs p → 10 * getD xs k 0 ≤ p) → (k : ℕ) → k < notAbove (x ∷ xs) p → Dec (10 * x ≤ p) → 10 * getD (x ∷ xs) k 0 ≤ p
+    go rest zero l (yes i) = i
+    go rest (suc k) l (yes i) = rest k (omega (arith, l, counted x xs p i))
+    go rest k l (no i) = absurd (omega (arith, l, passed x xs p (omega arith), none-counted x xs p (rises-tail b x xs t) (omega arith)))
+
+beyond-count : (b : ℕ) (xs : List ℕ) (p : ℕ) → T (rises b xs) → (k : ℕ) → k < length xs → 10 * getD xs k 0 ≤ p → k < notAbove xs p
+beyond-count b [] p t k h l = absurd (not-suc-le-zero h)
+beyond-count b (x ∷ xs) p t zero h l = omega (arith, counted x xs p l)
+beyond-count b (x ∷ xs) p t (suc k) h l =
+    let later = rises-tail b x xs t in
+    let less : x < getD xs k 0 = above-start x xs later k (le-of-suc-le-suc h) in
+    omega (arith, counted x xs p (omega arith), beyond-count x xs p later k (le-of-suc-le-suc h) l)
+
+tenths-rise : (m n : ℕ) → m ≤ n → Dec (m ≤ 99) → Dec (n ≤ 99) → tenthsOfPercent m ≤ tenthsOfPercent n
+unfolding tenthsOfPercent
+tenths-rise m n h (yes i) (yes j) = rw (le-leb m 99 i, le-leb n 99 j) (omega arith)
+tenths-rise m n h (yes i) (no j) = rw (le-leb m 99 i, lt-leb n 99 (omega arith)) (omega arith)
+tenths-rise m n h (no i) (yes j) = absurd (omega arith)
+tenths-rise m n h (no i) (no j) = rw (lt-leb m 99 (omega arith), lt-leb n 99 (omega arith)) (omega arith)
+
+-- entry k, counted from 0, has the probability tenthsOfPercent (k + 1)
+pub record Greatest (p d : ℕ) : Type 0 where
+  pub place : ℕ
+  pub is : d ≡ tenthsOfPercent place
+  pub within : place ≤ 108
+  pub not-above : (k : ℕ) → k < place → 10 * getD table k 0 ≤ p
+  pub greatest : (k : ℕ) → k < 108 → 10 * getD table k 0 ≤ p → tenthsOfPercent (suc k) ≤ d
+
+pub damage-is-greatest : (p : ℕ) → Greatest p (damage (pos p))
+unfolding damage
+damage-is-greatest p =
+    record {
+      place = notAbove table p;
+      is = refl;
+      within = table-count p;
+      not-above = within-count 0 table p table-rises;
+      greatest = λ k h l. tenths-rise (suc k) (notAbove table p) (beyond-count 0 table p table-rises k (omega (arith, table-length)) l) (decLe (suc k) 99) (decLe (notAbove table p) 99);
+    }
+
 -- a signed number is `up z` - `dn z`
 abbrev pub up : ℤ → ℕ
 up (pos n) = n
