@@ -6,7 +6,8 @@ ghost use lib.ListN.{length};
 ghost use Rattle.frame.specs.Refusals.{number};
 ghost use Rattle.frame.specs.Bytes.{twoAt, fourAt, fieldsOf};
 ghost use Rattle.frame.specs.Digits.{within, digitOf};
-ghost use Rattle.frame.specs.Spelling.{Sized, Spelled};
+ghost use Rattle.guidance.specs.Choice.{pick};
+ghost use Rattle.frame.specs.Spelling.{baseOf, Sized, Spelled};
 ghost use Rattle.frame.specs.laws.Tests.{caseVerdict};
 ghost use Rattle.frame.specs.Verdicts.{outside, settingOutside, quantityOutside, heatMissing, frameVerdict, lineVerdict};
 use guidance::Case;
@@ -88,20 +89,27 @@ fn fields_of(frame: &[u8]) -> Case
     }
 }
 
+// One of two numbers, by a test.
+fn choose(test: bool, a: u64, b: u64) -> u64
+    ensures { λ r. ⌜ r ≡ pick test a b ⌝ }
+{
+    if test { a } else { b }
+}
+
+// What is taken from x + 16 to leave the digit that x stands for, or 16. The three rows are tested without a branch.
+fn base_of(x: u64) -> u64
+    ensures { λ r. ⌜ r ≡ baseOf x ⌝ }
+{
+    let small = choose(is_within(97, 102, x), 103, x);
+    let capital = choose(is_within(65, 70, x), 71, small);
+    choose(is_within(48, 57, x), 64, capital)
+}
+
 fn digit_of(b: u8) -> u64
     ensures { λ r. ⌜ r ≡ digitOf b ⌝ }
 {
     let x = wide(b);
-    if is_within(48, 57, x) {
-        return x - 48;
-    }
-    if is_within(65, 70, x) {
-        return x - 55;
-    }
-    if is_within(97, 102, x) {
-        return x - 87;
-    }
-    16
+    x + 16 - base_of(x)
 }
 
 // The bytes that a line of 44 characters spells, into `frame`; false where a character is no digit.
