@@ -1,23 +1,27 @@
 /* ns per ln, e^, product and quotient of an interval, beside libm's log and exp and a double's product and quotient, in one run:
    first calls that do not wait for one another, then calls of which each waits for the one before.
-   The arguments of each row are drawn once, from a fixed seed, and are the same for both columns. */
+   The arguments of each row are drawn once, from a fixed seed, and are the same for both columns: intervals of up to 256 units of
+   2^-30, and the double at their lower end. */
 #include <math.h>
 #include <stdint.h>
 #include <stdio.h>
 #include <string.h>
 #include <time.h>
 
-int64_t enclosure_ln(uint64_t m, uint32_t e);
-uint64_t enclosure_expo(int64_t y);
-uint64_t enclosure_mul(uint64_t m, uint32_t e, uint64_t n, uint32_t f);
-uint64_t enclosure_quo(uint64_t m, uint32_t e, uint64_t n, uint32_t f);
+int64_t enclosure_ln(uint64_t m, uint64_t n, uint32_t e, int64_t *lower);
+uint32_t enclosure_expo(int64_t y, int64_t z, uint64_t *lower, uint64_t *upper);
+uint32_t enclosure_mul(uint64_t m, uint64_t n, uint32_t e, uint64_t p, uint64_t q, uint32_t f, uint64_t *lower, uint64_t *upper);
+uint32_t enclosure_quo(uint64_t m, uint64_t n, uint32_t e, uint64_t p, uint64_t q, uint32_t f, uint64_t *lower, uint64_t *upper);
 
 enum { COUNT = 1 << 12, ROUNDS = 64, REPEATS = 25 };
 
-static uint64_t m[COUNT], n[COUNT], sink;
-static uint32_t e[COUNT], f[COUNT];
-static int64_t y[COUNT];
+typedef struct { uint64_t lo, hi; uint32_t e; } span;
+typedef struct { int64_t lo, hi; } log_span;
+
+static span a[COUNT], b[COUNT];
+static log_span y[COUNT];
 static double x[COUNT], z[COUNT], w[COUNT], out;
+static uint64_t sink;
 
 static uint64_t seed = 0x9E3779B97F4A7C15u;
 static uint64_t next(void) {
@@ -25,6 +29,15 @@ static uint64_t next(void) {
     seed ^= seed >> 7;
     seed ^= seed << 17;
     return seed;
+}
+
+/* from 2^-40 to 2^40 */
+static span draw(void) {
+    span s;
+    s.lo = (1u << 30) + next() % ((1u << 30) - 256);
+    s.hi = s.lo + next() % 256;
+    s.e = 954 + next() % 80;
+    return s;
 }
 
 static double now(void) {
@@ -37,6 +50,24 @@ double plain_mul(double a, double b);
 double plain_quo(double a, double b);
 __attribute__((noinline)) double plain_mul(double a, double b) { return a * b; }
 __attribute__((noinline)) double plain_quo(double a, double b) { return a / b; }
+
+/* All numbers of the result are used: they are added. */
+static uint64_t ln(const span *s) {
+    int64_t l, u = enclosure_ln(s->lo, s->hi, s->e, &l);
+    return (uint64_t)l + (uint64_t)u;
+}
+static uint64_t expo(const log_span *s) {
+    uint64_t l, u, k = enclosure_expo(s->lo, s->hi, &l, &u);
+    return l + u + k;
+}
+static uint64_t mul(const span *s, const span *t) {
+    uint64_t l, u, k = enclosure_mul(s->lo, s->hi, s->e, t->lo, t->hi, t->e, &l, &u);
+    return l + u + k;
+}
+static uint64_t quo(const span *s, const span *t) {
+    uint64_t l, u, k = enclosure_quo(s->lo, s->hi, s->e, t->lo, t->hi, t->e, &l, &u);
+    return l + u + k;
+}
 
 #define TIME(best, call)                                     \
     do {                                                     \
@@ -51,9 +82,9 @@ __attribute__((noinline)) double plain_quo(double a, double b) { return a / b; }
     } while (0)
 
 static uint64_t bits(double d) {
-    uint64_t b;
-    memcpy(&b, &d, sizeof b);
-    return b;
+    uint64_t k;
+    memcpy(&k, &d, sizeof k);
+    return k;
 }
 
 static void row(const char *name, double ours, double plain) {
@@ -62,42 +93,41 @@ static void row(const char *name, double ours, double plain) {
 
 int main(void) {
     for (int i = 0; i < COUNT; i++) {
-        m[i] = (1u << 30) + next() % (1u << 30);
-        n[i] = (1u << 30) + next() % (1u << 30);
-        e[i] = 954 + next() % 80; /* from 2^-40 to 2^40 */
-        f[i] = 954 + next() % 80;
-        y[i] = (int64_t)(next() % (200ull << 30)) - (100ll << 30); /* from -100 to 100 */
-        x[i] = ldexp((double)m[i], (int)e[i] - 1024);
-        z[i] = ldexp((double)n[i], (int)f[i] - 1024);
-        w[i] = ldexp((double)y[i], -30);
+        a[i] = draw();
+        b[i] = draw();
+        y[i].lo = (int64_t)(next() % (200ull << 30)) - (100ll << 30); /* from -100 to 100 */
+        y[i].hi = y[i].lo + (int64_t)(next() % 256);
+        x[i] = ldexp((double)a[i].lo, (int)a[i].e - 1024);
+        z[i] = ldexp((double)b[i].lo, (int)b[i].e - 1024);
+        w[i] = ldexp((double)y[i].lo, -30);
     }
     static volatile uint64_t none;
     uint64_t zero = none, last = 0; /* 0, unknown to the compiler: i + (last & zero) is i, once last is there */
     double ours, plain, d = 0;
     puts("apart     interval    double     ratio");
-    TIME(ours, sink += (uint64_t)enclosure_ln(m[i], e[i]));
+    TIME(ours, sink += ln(&a[i]));
     TIME(plain, out += log(x[i]));
     row("ln", ours, plain);
-    TIME(ours, sink += enclosure_expo(y[i]));
+    TIME(ours, sink += expo(&y[i]));
     TIME(plain, out += exp(w[i]));
     row("e^", ours, plain);
-    TIME(ours, sink += enclosure_mul(m[i], e[i], n[i], f[i]));
+    TIME(ours, sink += mul(&a[i], &b[i]));
     TIME(plain, out += plain_mul(x[i], z[i]));
     row("product", ours, plain);
-    TIME(ours, sink += enclosure_quo(m[i], e[i], n[i], f[i]));
+    TIME(ours, sink += quo(&a[i], &b[i]));
     TIME(plain, out += plain_quo(x[i], z[i]));
     row("quotient", ours, plain);
     puts("in a row");
-    TIME(ours, last = (uint64_t)enclosure_ln(m[i + (last & zero)], e[i]));
+    TIME(ours, last = ln(&a[i + (last & zero)]));
     TIME(plain, d = log(x[i + (bits(d) & zero)]));
     row("ln", ours, plain);
-    TIME(ours, last = enclosure_expo(y[i + (last & zero)]));
+    TIME(ours, last = expo(&y[i + (last & zero)]));
     TIME(plain, d = exp(w[i + (bits(d) & zero)]));
     row("e^", ours, plain);
-    TIME(ours, last = enclosure_mul(m[i + (last & zero)], e[i], n[i], f[i]));
+    TIME(ours, last = mul(&a[i + (last & zero)], &b[i]));
     TIME(plain, d = plain_mul(x[i + (bits(d) & zero)], z[i]));
     row("product", ours, plain);
-    TIME(ours, last = enclosure_quo(m[i + (last & zero)], e[i], n[i], f[i]));
+    TIME(ours, last = quo(&a[i + (last & zero)], &b[i]));
     TIME(plain, d = plain_quo(x[i + (bits(d) & zero)], z[i]));
     row("quotient", ours, plain);
     sink += last;

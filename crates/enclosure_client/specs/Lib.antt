@@ -1,2 +1,2 @@
 pub mod Known
-pub mod Points
+pub mod Intervals
