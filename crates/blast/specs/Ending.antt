@@ -1,11 +1,11 @@
 -- For the callers: the whole numbers around ΔP and I hold the exact values, and are closed. Assumes nothing.
 use Prim.Native.Nat.{ℕ, _+_, _*_, _^_, _≤_, _<_}
 use native.Mathlib.Omega.{arith}
-use native.Mathlib.Nat.{le-of-mul-le-mul-right}
+use native.Mathlib.Nat.{lt-of-mul-lt-mul-right}
 use Rattle.exact.specs.Formula.{Formula}
 use Rattle.exact.specs.laws.Meeting.{any-two-meet}
 use Rattle.span.specs.declared.Span.{Span}
-use Rattle.span.specs.Spans.{unit, unit-positive}
+use Rattle.span.specs.Spans.{unit}
 use Rattle.span.specs.Enclosing.{wider}
 use Rattle.span.specs.Wholes.{wholes-hold, wholes-rule, wholes-finer}
 use Rattle.enclosure.specs.Promises.{enough}
@@ -15,11 +15,11 @@ use Rattle.layout.specs.declared.Ends.{Ends}
 use Rattle.waves.specs.Ends.{LowerAtMost, value-most-of}
 use Rattle.blast.specs.Promises.{Enclosure, PressureSpan, ImpulseSpan, Ended, Roundable, Rounded}
 
-below-top : (u t H U : ℕ) → 0 < U → H ≤ t * U → u * U ≤ H + U → u ≤ t + 1
-below-top u t H U z h k = le-of-mul-le-mul-right {k = U} (omega arith) z
+below-top : (u t H U : ℕ) → H ≤ t * U → u * U < H + U → u < t + 1
+below-top u t H U h k = lt-of-mul-lt-mul-right U (omega arith)
 
 module _ {x : Formula} {D l u n : ℕ} {s : Span} {e : Ends} (top : ℕ) (v : Enclosure x D l u s) (f : Rounded s e) where
-  ended : D ≤ 2 ^ 13 → LowerAtMost s n 1 → (t : ℕ) → 512 * n ≤ 511 * t * 1 → t + 1 < top → Ended x top e
+  ended : D ≤ 2 ^ 13 → LowerAtMost s n 1 → (t : ℕ) → 512 * n ≤ 511 * t * 1 → t < top → Ended x top e
   ended d m t i j =
       record {
         holds = wholes-hold {n = enough} (omega arith) (f .lower) (f .upper) (v .encloses enough (omega arith));
@@ -28,7 +28,7 @@ module _ {x : Formula} {D l u n : ℕ} {s : Span} {e : Ends} (top : ℕ) (v : En
         finer = wholes-finer (v .normal) (f .lower) (f .upper) (v .width) d;
         small =
             let high = value-most-of (wider (omega (arith, d)) (v .width)) m (omega arith) t i in
-            let b = below-top (e .upper) t (s .hi * 2 ^ s .e) unit unit-positive high (f .upper .near) in
+            let b = below-top (e .upper) t (s .hi * 2 ^ s .e) unit high (f .upper .near) in
             omega (arith, b, j);
       }
 

@@ -1,7 +1,7 @@
 -- The smaller of two spans, and whole numbers around one: nothing is rounded by `norm`. Assumes nothing.
 use mathlib.Core.Path.{_≡_, refl, sym, ap}
 use Prim.Native.Nat.{ℕ, _+_, _*_, _-_, _^_, _≤_, _<_}
-use native.Mathlib.Nat.{le-trans, le-of-eq, mul-le-mul-right}
+use native.Mathlib.Nat.{le-trans, le-of-eq, mul-le-mul-right, mul-lt-mul-of-pos-right}
 use native.Mathlib.Omega.{arith}
 use native.Mathlib.Decide.{decLe}
 use lib.Pow.{pow-pos}
@@ -91,8 +91,8 @@ floored a n d h s =
       small = s .small;
     }
   where
-    near-by : (m : ℕ) → m * 2 ^ a .e ≡ n * unit → 2 ^ d * 2 ^ a .e ≡ unit → a .lo ≤ m + 2 ^ d → a .lo * 2 ^ a .e ≤ n * unit + unit
-    near-by m q one l = omega (arith, mul-le-mul-right (2 ^ a .e) l)
+    near-by : (m : ℕ) → m * 2 ^ a .e ≡ n * unit → 2 ^ d * 2 ^ a .e ≡ unit → a .lo < m + 2 ^ d → a .lo * 2 ^ a .e < n * unit + unit
+    near-by m q one l = omega (arith, mul-lt-mul-of-pos-right {k = 2 ^ a .e} l (pow-pos (a .e)))
 
 pub ceiled : (a : Span) (n d : ℕ) → d + a .e ≡ 1024 → ShiftedUp (a .hi) d n → Ceiling a n
 ceiled a n d h s =
@@ -103,5 +103,5 @@ ceiled a n d h s =
       small = s .small;
     }
   where
-    near-by : (m : ℕ) → m * 2 ^ a .e ≡ n * unit → 2 ^ d * 2 ^ a .e ≡ unit → m ≤ a .hi + 2 ^ d → n * unit ≤ a .hi * 2 ^ a .e + unit
-    near-by m q one l = omega (arith, mul-le-mul-right (2 ^ a .e) l)
+    near-by : (m : ℕ) → m * 2 ^ a .e ≡ n * unit → 2 ^ d * 2 ^ a .e ≡ unit → m < a .hi + 2 ^ d → n * unit < a .hi * 2 ^ a .e + unit
+    near-by m q one l = omega (arith, mul-lt-mul-of-pos-right {k = 2 ^ a .e} l (pow-pos (a .e)))

@@ -145,14 +145,14 @@ pub record Smaller (a b r : Span) : Type 0 where
   pub width : (D : ℕ) → Width a D → Width b D → Width r D
   pub exponent : r .e ≡ a .e - (a .e - b .e)
 
--- Whole numbers around a span
+-- The whole numbers around a span: the greatest that is not above the lower end, and the least that is not below the upper end
 
 pub record Floor (a : Span) (n : ℕ) : Type 0 where
   pub below : n * unit ≤ a .lo * 2 ^ a .e
-  pub near : a .lo * 2 ^ a .e ≤ n * unit + unit
+  pub near : a .lo * 2 ^ a .e < n * unit + unit
   pub small : n ≤ a .lo
 
 pub record Ceiling (a : Span) (n : ℕ) : Type 0 where
   pub above : a .hi * 2 ^ a .e ≤ n * unit
-  pub near : n * unit ≤ a .hi * 2 ^ a .e + unit
+  pub near : n * unit < a .hi * 2 ^ a .e + unit
   pub small : n ≤ a .hi

@@ -29,7 +29,7 @@ pub record Closed (k l u : ℕ) : Type 0 where
   pub narrow : k * (u - l) ≤ 2 * k + l
 
 -- all in units: L and H are the ends of a span, U one
-closed : (k D l u L H U : ℕ) → suc k * D < 2 ^ 30 → 0 < U → 0 < H → L ≤ H → l * U ≤ L → L ≤ l * U + U → H ≤ u * U → u * U ≤ H + U
+closed : (k D l u L H U : ℕ) → suc k * D < 2 ^ 30 → 0 < U → 0 < H → L ≤ H → l * U ≤ L → L < l * U + U → H ≤ u * U → u * U < H + U
     → H * 2 ^ 30 ≤ L * 2 ^ 30 + D * H → Closed k l u
 closed k D l u L H U small z some o l0 l1 u0 u1 w =
     let in-order : l ≤ u = le-of-mul-le-mul-right {k = U} (omega arith) z in
