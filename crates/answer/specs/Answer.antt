@@ -28,7 +28,7 @@ use Rattle.probits.specs.Promises.{Thousandth}
 pub record WaveEnds (x : Formula) (e : Ends) : Type 0 where
   pub holds : Holds (wholes (e .lower) (e .upper)) x
   pub meet : AnyTwoMeet x
-  pub closed : Closed 10000 (e .lower) (e .upper)
+  pub closed : Closed (e .lower) (e .upper)
   pub fits : e .upper < 2 ^ 32
 
 -- a probit in thousandths: the same, and upper - lower is at most 2

@@ -7,7 +7,7 @@ use Rattle.exact.specs.laws.Meeting.{any-two-meet}
 use Rattle.span.specs.declared.Span.{Span}
 use Rattle.span.specs.Spans.{unit}
 use Rattle.span.specs.Enclosing.{wider}
-use Rattle.span.specs.Wholes.{wholes-hold, wholes-rule, wholes-finer}
+use Rattle.span.specs.Wholes.{wholes-hold, wholes-finer, finer-closed}
 use Rattle.enclosure.specs.Promises.{enough}
 use Rattle.guidance.specs.declared.Case.{Case}
 use Rattle.guidance.specs.Waves.{overpressure, impulse}
@@ -21,11 +21,12 @@ below-top u t H U h k = lt-of-mul-lt-mul-right U (omega arith)
 module _ {x : Formula} {D l u n : ℕ} {s : Span} {e : Ends} (top : ℕ) (v : Enclosure x D l u s) (f : Rounded s e) where
   ended : D ≤ 2 ^ 13 → LowerAtMost s n 1 → (t : ℕ) → 512 * n ≤ 511 * t * 1 → t < top → Ended x top e
   ended d m t i j =
+      let narrow = wholes-finer (v .normal) (f .lower) (f .upper) (v .width) d in
       record {
         holds = wholes-hold {n = enough} (omega arith) (f .lower) (f .upper) (v .encloses enough (omega arith));
         meet = any-two-meet x;
-        closed = wholes-rule (v .normal) (f .lower) (f .upper) (v .width) (omega (arith, d));
-        finer = wholes-finer (v .normal) (f .lower) (f .upper) (v .width) d;
+        closed = finer-closed narrow;
+        finer = narrow;
         small =
             let high = value-most-of (wider (omega (arith, d)) (v .width)) m (omega arith) t i in
             let b = below-top (e .upper) t (s .hi * 2 ^ s .e) unit high (f .upper .near) in

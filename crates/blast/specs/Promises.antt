@@ -5,7 +5,7 @@ use Rattle.exact.specs.Formula.{Formula}
 use Rattle.exact.specs.Exact.{Holds, AnyTwoMeet}
 use Rattle.span.specs.declared.Span.{Span}
 use Rattle.span.specs.Spans.{Normal, Width, Floor, Ceiling}
-use Rattle.span.specs.Wholes.{wholes, Closed}
+use Rattle.span.specs.Wholes.{wholes, Closed, Finer}
 use Rattle.span.specs.Enclosing.{Encloses}
 use Rattle.enclosure.specs.Promises.{enough}
 use Rattle.waves.specs.Ends.{LowerAtMost}
@@ -45,12 +45,12 @@ pub record WaveOf (air : ℕ) (c : Case) (w : Wave) : Type 0 where
   pub pressure : PressureSpan air c (w .pressure)
   pub impulse : ImpulseSpan air c (w .impulse)
 
--- Whole numbers around the value of x, closed by the rule and by the finer one, below `top`
+-- Whole numbers around the value of x, closed by the width rule and by the finer one, below `top`
 pub record Ended (x : Formula) (top : ℕ) (e : Ends) : Type 0 where
   pub holds : Holds (wholes (e .lower) (e .upper)) x
   pub meet : AnyTwoMeet x
-  pub closed : Closed 10000 (e .lower) (e .upper)
-  pub finer : Closed 100000 (e .lower) (e .upper)
+  pub closed : Closed (e .lower) (e .upper)
+  pub finer : Finer (e .lower) (e .upper)
   pub small : e .upper < top
 
 pub record Roundable (s : Span) : Type 0 where
