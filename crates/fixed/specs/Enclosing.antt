@@ -6,12 +6,11 @@ use native.Mathlib.Nat.{mul-le-mul-right, le-of-mul-le-mul-right}
 use native.Mathlib.Omega.{arith}
 use lib.IntN.{pos, negsuc}
 use Rattle.exact.specs.Fraction.{neg, Ratio, Frac, _⊑_, ofRatio, _⊠_}
-use Rattle.exact.specs.laws.Frac.{⊑-refl, ⊑-trans, ⊠-comm}
+use Rattle.exact.specs.laws.Frac.{⊑-trans, ⊠-comm}
 use Rattle.exact.specs.Formula.{Formula, const, add, sub, mul, bracketAt}
-use Rattle.exact.specs.laws.Meeting.{meeting}
 use Rattle.exact.specs.Exact.{Holds}
 use Rattle.exact.specs.laws.Containment.{contains-holds}
-use Rattle.exact.specs.laws.Steps.{binary, const-inside}
+use Rattle.exact.specs.laws.Steps.{binary-inside, const-inside}
 use Rattle.exact.specs.laws.Points.{point-inside}
 use Rattle.fixed.specs.declared.Log.{Log}
 use Rattle.fixed.specs.Signed.{up, dn}
@@ -51,20 +50,17 @@ constant-encloses {c} {r} k n = record { inside = const-inside c n (bracket r) (
 
 pub sum-encloses : {a b r : Log} {x y : Formula} {n : ℕ} → LogSum a b r → LogEncloses a x n → LogEncloses b y n → LogEncloses r (add x y) n
 unfolding bracketAt
-sum-encloses {x = x} {y = y} {n = n} s h k =
-    record { inside = binary (bracketAt x n) (bracketAt y n) (meeting x n n) (meeting y n n) (h .inside) (k .inside) (s .holds) }
+sum-encloses {x = x} {y = y} {n = n} s h k = record { inside = binary-inside x y n (h .inside) (k .inside) (s .holds) }
 
 pub difference-encloses : {a b r : Log} {x y : Formula} {n : ℕ} → LogDifference a b r → LogEncloses a x n → LogEncloses b y n
     → LogEncloses r (sub x y) n
 unfolding bracketAt
-difference-encloses {x = x} {y = y} {n = n} s h k =
-    record { inside = binary (bracketAt x n) (bracketAt y n) (meeting x n n) (meeting y n n) (h .inside) (k .inside) (s .holds) }
+difference-encloses {x = x} {y = y} {n = n} s h k = record { inside = binary-inside x y n (h .inside) (k .inside) (s .holds) }
 
 pub product-encloses : {a b r : Log} {x y : Formula} {n : ℕ} → LogProduct a b r → LogEncloses a x n → LogEncloses b y n
     → LogEncloses r (mul x y) n
 unfolding bracketAt
-product-encloses {x = x} {y = y} {n = n} s h k =
-    record { inside = binary (bracketAt x n) (bracketAt y n) (meeting x n n) (meeting y n n) (h .inside) (k .inside) (s .holds) }
+product-encloses {x = x} {y = y} {n = n} s h k = record { inside = binary-inside x y n (h .inside) (k .inside) (s .holds) }
 
 -- Multiples
 
@@ -82,7 +78,7 @@ unfolding bracketAt
 scaled-encloses {p} {d} {c = c} {x = x} {n = n} s e h =
     record {
       inside =
-          binary (bracketAt (const c) n) (bracketAt x n) (⊑-refl c) (meeting x n n) (point-inside c n) (h .inside)
+          binary-inside (const c) x n (point-inside c n) (h .inside)
           λ u q i j. s .holds u q (held c p d e u (i .above) (i .below)) j;
     }
 
@@ -93,7 +89,7 @@ unfolding bracketAt
 scaled-encloses-right {p} {d} {c = c} {x = x} {n = n} s e h =
     record {
       inside =
-          binary (bracketAt x n) (bracketAt (const c) n) (meeting x n n) (⊑-refl c) (h .inside) (point-inside c n)
+          binary-inside x (const c) n (h .inside) (point-inside c n)
           λ q u j i.
           let m = s .holds u q (held c p d e u (i .above) (i .below)) j in
           record { above = ⊑-trans (m .above) (⊠-comm u q); below = ⊑-trans (⊠-comm q u) (m .below) };

@@ -9,7 +9,7 @@ use Rattle.exact.specs.Formula.{Formula, const, add, sub, mul, div, least, brac
 use Rattle.exact.specs.laws.Meeting.{meeting}
 use Rattle.exact.specs.laws.Containment.{Inside, contains-holds}
 use Rattle.exact.specs.Exact.{Holds}
-use Rattle.exact.specs.laws.Steps.{binary, binary-quotient, const-inside}
+use Rattle.exact.specs.laws.Steps.{binary-inside, binary-quotient, const-inside}
 use Rattle.span.specs.declared.Span.{Span}
 use Rattle.span.specs.Spans.{hull, wholeF, fraction, Normal, Rel, Width, Whole, FractionOf, Constant, Product, Quotient, Sum, Difference, Smaller}
 
@@ -28,23 +28,19 @@ fraction-encloses {m} {d} {r} k z n = record { inside = const-inside (fraction m
 
 pub product-encloses : {a b r : Span} {x y : Formula} {n : ℕ} → Product a b r → Encloses a x n → Encloses b y n → Encloses r (mul x y) n
 unfolding bracketAt
-product-encloses {x = x} {y = y} {n = n} p h k =
-    record { inside = binary (bracketAt x n) (bracketAt y n) (meeting x n n) (meeting y n n) (h .inside) (k .inside) (p .holds) }
+product-encloses {x = x} {y = y} {n = n} p h k = record { inside = binary-inside x y n (h .inside) (k .inside) (p .holds) }
 
 pub sum-encloses : {a b r : Span} {x y : Formula} {n : ℕ} → Sum a b r → Encloses a x n → Encloses b y n → Encloses r (add x y) n
 unfolding bracketAt
-sum-encloses {x = x} {y = y} {n = n} s h k =
-    record { inside = binary (bracketAt x n) (bracketAt y n) (meeting x n n) (meeting y n n) (h .inside) (k .inside) (s .holds) }
+sum-encloses {x = x} {y = y} {n = n} s h k = record { inside = binary-inside x y n (h .inside) (k .inside) (s .holds) }
 
 pub difference-encloses : {a b r : Span} {x y : Formula} {n : ℕ} → Difference a b r → Encloses a x n → Encloses b y n → Encloses r (sub x y) n
 unfolding bracketAt
-difference-encloses {x = x} {y = y} {n = n} s h k =
-    record { inside = binary (bracketAt x n) (bracketAt y n) (meeting x n n) (meeting y n n) (h .inside) (k .inside) (s .holds) }
+difference-encloses {x = x} {y = y} {n = n} s h k = record { inside = binary-inside x y n (h .inside) (k .inside) (s .holds) }
 
 pub smaller-encloses : {a b r : Span} {x y : Formula} {n : ℕ} → Smaller a b r → Encloses a x n → Encloses b y n → Encloses r (least x y) n
 unfolding bracketAt
-smaller-encloses {x = x} {y = y} {n = n} s h k =
-    record { inside = binary (bracketAt x n) (bracketAt y n) (meeting x n n) (meeting y n n) (h .inside) (k .inside) (s .holds) }
+smaller-encloses {x = x} {y = y} {n = n} s h k = record { inside = binary-inside x y n (h .inside) (k .inside) (s .holds) }
 
 pub quotient-encloses : {a b r : Span} {x y : Formula} {n : ℕ} → Quotient a b r → Encloses a x n → Encloses b y n → Encloses r (div x y) n
 unfolding bracketAt

@@ -17,11 +17,10 @@ use Rattle.exact.specs.laws.EndsMeet.{signed, ofRatio-mono, one-below-ex
 use Rattle.exact.specs.laws.Exp.{exp-lower-mono, exp-upper-mono}
 use Rattle.exact.specs.laws.Frac.{scale-mono, ⊑-refl, ⊑-trans, smaller-glb, larger-lub, neg-anti}
 use Rattle.exact.specs.laws.Ln.{ln-lower-mono, ln-upper-mono}
-use Rattle.exact.specs.laws.Meeting.{meeting}
 use Rattle.exact.specs.laws.Pairs.{⊠-monotone}
 use Rattle.exact.specs.laws.Ratio.{_≈_, ≼-refl, ≼-trans, to≼, from≼, ⊗-mono, recip-anti, above-mono, ⊖-anti}
 use Rattle.exact.specs.laws.Reduction.{LowerEnd, UpperEnd, least-one, least-all, most-zero, room, lower-from, upper-if, lower-if, upper-one-over}
-use Rattle.exact.specs.laws.Steps.{binary, const-inside, exp-inside}
+use Rattle.exact.specs.laws.Steps.{binary-inside, const-inside, exp-inside}
 
 abbrev pub point : Frac → Bracket
 point c = record { lo = c; hi = c }
@@ -34,7 +33,7 @@ pub scale-inside : (c : Frac) → zeroF ⊑ c → (y : Formula) (n : ℕ) (J K :
     → K .lo ⊑ c ⊠ J .lo → c ⊠ J .hi ⊑ K .hi → Inside (bracketAt (mul (const c) y) n) (some K)
 unfolding bracketAt
 scale-inside c z y n J K h a b =
-    binary (bracketAt (const c) n) (bracketAt y n) (⊑-refl c) (meeting y n n) (point-inside c n) h
+    binary-inside (const c) y n (point-inside c n) h
     λ p q i j.
     let m = ⊠-monotone .left q (i .above) (i .below) in
     record {

@@ -15,7 +15,7 @@ use Rattle.exact.specs.laws.Meeting.{ends, Meets, meeting}
 use Rattle.exact.specs.laws.Pairs.{quotient, outward-in, lo-in, hi-in}
 
 -- K contains `op` of every point of I and every point of J
-pub binary : {op : Frac → Frac → Frac} (x y : Option Bracket) {I J K : Bracket} → Meets x x → Meets y y → Inside x (some I) → Inside y (some J)
+binary : {op : Frac → Frac → Frac} (x y : Option Bracket) {I J K : Bracket} → Meets x x → Meets y y → Inside x (some I) → Inside y (some J)
     → ((p q : Frac) → p ∈ I → q ∈ J → op p q ∈ K) → Inside (lift (overPairs op) x y) (some K)
 unfolding lift _>>_ overPairs
 binary none y v w h k r = h
@@ -26,6 +26,11 @@ binary (some A) (some B) v w h k r =
     let c = lo-in k w in
     let d = hi-in k w in
     outward-in (r _ _ a c) (r _ _ a d) (r _ _ b c) (r _ _ b d)
+
+-- the same of formulas, for every operation that is taken over all pairs of ends
+pub binary-inside : {op : Frac → Frac → Frac} (x y : Formula) (n : ℕ) {I J K : Bracket} → Inside (bracketAt x n) (some I) → Inside (bracketAt y n) (some J)
+    → ((p q : Frac) → p ∈ I → q ∈ J → op p q ∈ K) → Inside (lift (overPairs op) (bracketAt x n) (bracketAt y n)) (some K)
+binary-inside x y n h k r = binary (bracketAt x n) (bracketAt y n) (meeting x n n) (meeting y n n) h k r
 
 -- K contains the quotient of every point of I by every point of J, which lies above 0
 pub binary-quotient : (x y : Option Bracket) {I J K : Bracket} → Meets x x → Meets y y → Inside x (some I) → Inside y (some J) → Positive (J .lo)
@@ -51,19 +56,19 @@ module _ (x y : Formula) (n : ℕ) (I J K : Bracket) (h : Inside (bracketAt x n)
   pub add-inside : K .lo ⊑ I .lo ⊞ J .lo → I .hi ⊞ J .hi ⊑ K .hi → Inside (bracketAt (add x y) n) (some K)
   unfolding bracketAt
   add-inside a b =
-      binary (bracketAt x n) (bracketAt y n) (meeting x n n) (meeting y n n) h k
+      binary-inside x y n h k
       λ p q i j. record { above = ⊑-trans a (⊞-mono (i .above) (j .above)); below = ⊑-trans (⊞-mono (i .below) (j .below)) b }
 
   pub sub-inside : K .lo ⊑ I .lo ⊟ J .hi → I .hi ⊟ J .lo ⊑ K .hi → Inside (bracketAt (sub x y) n) (some K)
   unfolding bracketAt
   sub-inside a b =
-      binary (bracketAt x n) (bracketAt y n) (meeting x n n) (meeting y n n) h k
+      binary-inside x y n h k
       λ p q i j. record { above = ⊑-trans a (⊟-mono (i .above) (j .below)); below = ⊑-trans (⊟-mono (i .below) (j .above)) b }
 
   pub least-inside : K .lo ⊑ smaller (I .lo) (J .lo) → smaller (I .hi) (J .hi) ⊑ K .hi → Inside (bracketAt (least x y) n) (some K)
   unfolding bracketAt
   least-inside a b =
-      binary (bracketAt x n) (bracketAt y n) (meeting x n n) (meeting y n n) h k
+      binary-inside x y n h k
       λ p q i j.
       record {
         above = ⊑-trans a (smaller-glb (⊑-trans (smaller-left _ _) (i .above)) (⊑-trans (smaller-right _ _) (j .above)));
@@ -80,7 +85,7 @@ pub mul-inside : (x y : Formula) (n : ℕ) (I J K : Bracket) → Inside (bracket
     → zeroF ⊑ I .lo → zeroF ⊑ J .lo → K .lo ⊑ I .lo ⊠ J .lo → I .hi ⊠ J .hi ⊑ K .hi → Inside (bracketAt (mul x y) n) (some K)
 unfolding bracketAt
 mul-inside x y n I J K h k z w a b =
-    binary (bracketAt x n) (bracketAt y n) (meeting x n n) (meeting y n n) h k
+    binary-inside x y n h k
     λ p q i j.
     record {
       above = ⊑-trans a (product-mono w (⊑-trans z (i .above)) (i .above) (j .above));
