@@ -1,19 +1,10 @@
--- A signed number by its two parts, its division by a positive number rounded downward and upward, and the smaller of two.
+-- A signed number's division by a positive number rounded downward and upward, and the smaller of two; its two parts are `signed`'s.
 -- Assumes nothing.
-use Prim.Native.Nat.{ℕ, suc, _/_}
+use Prim.Native.Nat.{ℕ, _/_}
 use mathlib.Core.Bool.{cond}
 use lib.IntN.{ℤ, pos, negsuc, negℤ}
 use lib.Signed.{ltZ}
-
--- z as the difference of two natural numbers, of which one is 0: z is `up z` - `dn z`
-
-abbrev pub up : ℤ → ℕ
-up (pos n) = n
-up (negsuc n) = 0
-
-abbrev pub dn : ℤ → ℕ
-dn (pos n) = 0
-dn (negsuc n) = suc n
+pub use Rattle.signed.specs.Parts.{up, dn}
 
 -- downward, also below zero: -(a + 1) becomes -(a / d + 1)
 abbrev pub floorZ : ℤ → ℕ → ℤ

@@ -1,1 +1,1 @@
-// Signed words in proofs are all in specs/: laws, no code.
+// Signed numbers and words in a proof: all of it stands in specs/, no code.

@@ -11,6 +11,7 @@ use lib.Dec.{T, ltb, leb, ltb→lt}
 use lib.IntN.{ℤ, pos, negsuc}
 use lib.ListN.{getD, length}
 use borrow.Author.Tests.{le-leb, lt-leb}
+use Rattle.signed.specs.Parts.{up, dn}
 use Rattle.guidance.specs.Choice.{pick}
 use Rattle.guidance.specs.Damage.{table, notAbove, tenthsOfPercent, damage, Neighbours}
 use Rattle.guidance.specs.laws.Tables.{both-left, both-right}
@@ -180,15 +181,6 @@ damage-is-greatest p =
       not-above = within-count 0 table p table-rises;
       greatest = λ k h l. tenths-rise (suc k) (notAbove table p) (beyond-count 0 table p table-rises k (omega (arith, table-length)) l) (decLe (suc k) 99) (decLe (notAbove table p) 99);
     }
-
--- a signed number is `up z` - `dn z`
-abbrev pub up : ℤ → ℕ
-up (pos n) = n
-up (negsuc n) = 0
-
-abbrev pub dn : ℤ → ℕ
-dn (pos n) = 0
-dn (negsuc n) = suc n
 
 from-counts : {m n : ℕ} → OneMore m n → n ≤ 108 → Neighbours (tenthsOfPercent m) (tenthsOfPercent n)
 from-counts {m} {n} h l =
