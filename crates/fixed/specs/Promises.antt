@@ -1,5 +1,5 @@
 -- What each operation on intervals asks and what it promises: that its result holds every result of what its arguments hold (over the
--- fractions of the theory), how narrow it is, and how large its ends are. Assumes nothing.
+-- fractions of the theory), how narrow it is, and how large its ends are. The ends are open but for that. Assumes nothing.
 use Prim.Native.Nat.{ℕ, _+_, _*_, _^_, _≤_, _<_}
 use mathlib.Core.Path.{_≡_}
 use Rattle.exact.specs.Fraction.{Frac, _⊞_, _⊟_, _⊠_}

@@ -1,5 +1,6 @@
 -- What a `Span` stands for, and what each operation promises of it: that it holds every result of what its arguments hold
--- (over the fractions of the theory), how narrow it is, and where its exponent lies. Assumes nothing.
+-- (over the fractions of the theory), how narrow it is, and where its exponent lies. The ends are open but for that; the
+-- whole numbers `Floor` and `Ceiling` are not. Assumes nothing.
 use Prim.Native.Nat.{ℕ, _+_, _*_, _-_, _^_, _≤_, _<_}
 use mathlib.Core.Path.{_≡_}
 use lib.Pow.{pow-pos}

@@ -1,4 +1,5 @@
 -- What the deflagration functions ask of their spans, and what they promise of their results (document 01, "Wave formulas").
+-- The interval ends are open but for that.
 use Prim.Native.Nat.{ℕ, _+_, _*_, _^_, _≤_}
 use mathlib.Core.Path.{_≡_, refl}
 use lib.Dec.{eqb}

@@ -1,5 +1,5 @@
 -- What the detonation functions ask of a span of the reduced distance, and what they promise of their results (document 01, "Wave
--- formulas").
+-- formulas"). The interval ends are open but for that.
 use Prim.Native.Nat.{ℕ, _+_, _*_, _^_, _≤_}
 use Rattle.exact.specs.Formula.{Formula}
 use Rattle.span.specs.declared.Span.{Span}

@@ -1,4 +1,5 @@
 -- The front speed by the speed range and the mass, and what is promised of it (document 01, "From frame to speed range").
+-- The interval ends are open but for that.
 use Prim.Native.Nat.{ℕ, _≤_}
 use mathlib.Core.Path.{_≡_, refl}
 use native.Mathlib.Omega.{arith}
