@@ -165,7 +165,7 @@ pub fn put_answer(
     ensures { λ _. ⌜ now (s .exit) ≡ sets (now (s .entry)) 0 (answerBytes range pressure impulse probits damages) ⌝ }
 {
     put_range(s, range);
-    put_wave(&mut s[1..], pressure, impulse);
-    put_probits(&mut s[17..], probits);
-    put_damages(&mut s[57..], damages);
+    put_wave(&mut s[1..17], pressure, impulse);
+    put_probits(&mut s[17..57], probits);
+    put_damages(&mut s[57..77], damages);
 }
