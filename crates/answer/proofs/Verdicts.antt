@@ -5,16 +5,15 @@ use Prim.Native.Nat.{ℕ}
 use lib.ListN.{length}
 use Rattle.guidance.specs.declared.Case.{Case}
 use Rattle.frame.specs.declared.Verdict.{Verdict}
-use Rattle.frame.specs.declared.Verdict.the-variants.{Accepted}
 use Rattle.frame.specs.Verdicts.{frameVerdict, lineVerdict}
 use Rattle.frame.specs.laws.Verdicts.{Taken, frame-accepted, line-accepted}
-use Rattle.answer.specs.Steps.{Due}
+use Rattle.answer.specs.Steps.{Due, Enterable}
 
 due : {d c : Case} {area : List ℕ} → Taken d c (length area) → Due c area
 due t = record { accepted = t .accepted; room = t .enough }
 
-pub due-frame : (frame area : List ℕ) {v : Verdict} {c : Case} → v ≡ frameVerdict frame (length area) → v ≡ Accepted c → Due c area
-due-frame frame area {c = c} d g = due (frame-accepted frame c (length area) (sym d ∙ g) .taken)
+pub due-frame : (frame area : List ℕ) {v : Verdict} → v ≡ frameVerdict frame (length area) → Enterable v area
+due-frame frame area d c g = due (frame-accepted frame c (length area) (sym d ∙ g) .taken)
 
-pub due-line : (line area : List ℕ) {v : Verdict} {c : Case} → v ≡ lineVerdict line (length area) → v ≡ Accepted c → Due c area
-due-line line area {c = c} d g = due (line-accepted line c (length area) (sym d ∙ g) .taken)
+pub due-line : (line area : List ℕ) {v : Verdict} → v ≡ lineVerdict line (length area) → Enterable v area
+due-line line area d c g = due (line-accepted line c (length area) (sym d ∙ g) .taken)

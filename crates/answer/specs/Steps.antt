@@ -4,12 +4,14 @@ use mathlib.Core.Path.{_≡_}
 use mathlib.Core.List.{List}
 use lib.ListN.{length}
 use Rattle.guidance.specs.declared.Case.{Case}
-use Rattle.guidance.specs.Cases.{Accepted}
+use Rattle.guidance.specs.Cases as cases
 use Rattle.guidance.specs.Clouds.{rangeOf}
 use Rattle.guidance.specs.Waves.{standardAir, overpressure, impulse}
 use Rattle.guidance.specs.Probits.{probit1, probit2, probit3, probit4, probit5}
+use Rattle.frame.specs.declared.Verdict.{Verdict}
+use Rattle.frame.specs.declared.Verdict.the-variants.{Accepted}
 use Rattle.answer.specs.declared.Figures.{Figures}
-use Rattle.answer.specs.Answer.{WaveEnds, ProbitEnds}
+use Rattle.answer.specs.Answer.{WaveEnds, ProbitEnds, Answered}
 
 pub record FiguresOf (c : Case) (f : Figures) : Type 0 where
   pub range : f .range ≡ rangeOf c
@@ -24,5 +26,14 @@ pub record FiguresOf (c : Case) (f : Figures) : Type 0 where
 
 -- an accepted case and room for its answer
 pub record Due (c : Case) (area : List ℕ) : Type 0 where
-  pub accepted : Accepted standardAir c
+  pub accepted : cases.Accepted standardAir c
   pub room : 77 ≤ length area
+
+-- a verdict over an area: an accepted case is due its answer
+abbrev pub Enterable : Verdict → List ℕ → Type 0
+Enterable v area = (c : Case) → v ≡ Accepted c → Due c area
+
+-- the verdict comes back, and the area is as it says
+pub record Entered (v : Verdict) (before : List ℕ) (r : Verdict) (after : List ℕ) : Type 0 where
+  pub verdict : r ≡ v
+  pub area : Answered r before after

@@ -3,7 +3,7 @@ ghost use mathlib.Core.Path.{_≡_};
 ghost use Rattle.guidance.specs.Cases.{Accepted};
 ghost use Rattle.guidance.specs.Waves.{standardAir};
 ghost use Rattle.answer.specs.Answer.{reading, readings, Wrote, FromFrame, FromLine};
-ghost use Rattle.answer.specs.Steps.{FiguresOf, Due};
+ghost use Rattle.answer.specs.Steps.{FiguresOf, Due, Enterable, Entered};
 use frame::Verdict;
 use guidance::Case;
 use layout::Damages;
@@ -74,11 +74,11 @@ fn write(c: Case, area: &mut [u8])
     layout::put_answer(area, f.range, f.pressure, f.impulse, f.probits, d);
 }
 
-// A case given as a frame's bytes.
-pub fn from_frame(frame: &[u8], area: &mut [u8]) -> Verdict
-    ensures { λ r. ⌜ FromFrame (now (frame .entry)) (now (area .entry)) r (now (area .exit)) ⌝ }
+// What the verdict asks of the area.
+fn enter(v: Verdict, area: &mut [u8]) -> Verdict
+    requires { ⌜ Enterable v (now area) ⌝ }
+    ensures { λ r. ⌜ Entered v (now (area .entry)) r (now (area .exit)) ⌝ }
 {
-    let v = frame::decide_frame(frame, area.len());
     match v {
         Verdict::Accepted(c) => {
             write(c, area);
@@ -88,16 +88,18 @@ pub fn from_frame(frame: &[u8], area: &mut [u8]) -> Verdict
     }
 }
 
+// A case given as a frame's bytes.
+pub fn from_frame(frame: &[u8], area: &mut [u8]) -> Verdict
+    ensures { λ r. ⌜ FromFrame (now (frame .entry)) (now (area .entry)) r (now (area .exit)) ⌝ }
+{
+    let v = frame::decide_frame(frame, area.len());
+    enter(v, area)
+}
+
 // A case given as a line of hexadecimal digits.
 pub fn from_line(line: &[u8], area: &mut [u8]) -> Verdict
     ensures { λ r. ⌜ FromLine (now (line .entry)) (now (area .entry)) r (now (area .exit)) ⌝ }
 {
     let v = frame::decide_line(line, area.len());
-    match v {
-        Verdict::Accepted(c) => {
-            write(c, area);
-            Verdict::Accepted(c)
-        }
-        Verdict::Refused(r) => Verdict::Refused(r),
-    }
+    enter(v, area)
 }
