@@ -11,9 +11,6 @@ use layout::Ends;
 use layout::Probit;
 use layout::Probits;
 
-// The air pressure of a frame of 22 bytes, Pa (001).
-const AIR: u64 = 101300;
-
 // An answer's numbers, but for the damages, which the probits give.
 struct Figures {
     range: u64,
@@ -27,10 +24,10 @@ fn figures_of(c: Case) -> Figures
     ensures { λ f. ⌜ FiguresOf c f ⌝ }
 {
     let k = guidance::cloud_of(c);
-    let w = blast::wave_of(c, k, AIR);
+    let w = blast::wave_of(c, k, guidance::STANDARD_AIR);
     let pressure = blast::ends(w.pressure);
     let impulse = blast::ends(w.impulse);
-    let probits = probits::probits_of(w.pressure, w.impulse, AIR, c.body);
+    let probits = probits::probits_of(w.pressure, w.impulse, guidance::STANDARD_AIR, c.body);
     Figures {
         range: k.range,
         pressure,

@@ -85,7 +85,7 @@ fn air_power(air: u64) -> Span
     requires { ⌜ Air air ⌝ }
     ensures { λ r. ⌜ AirPower air r ⌝ }
 {
-    if air == 101300 {
+    if air == guidance::STANDARD_AIR {
         return STANDARD_POWER;
     }
     let p = span::whole(air);

@@ -12,6 +12,9 @@ ghost use Rattle.frame.specs.laws.Tests.{caseVerdict};
 ghost use Rattle.frame.specs.Verdicts.{outside, settingOutside, quantityOutside, heatMissing, frameVerdict, lineVerdict};
 use guidance::Case;
 
+// The bytes of an answer frame.
+pub const ANSWER: usize = 77;
+
 // Why a case is refused, in the order of the tests.
 pub enum Refusal {
     Length,
@@ -179,7 +182,7 @@ fn heat_missing(c: Case) -> bool
     guidance::heat_of(c) == 0
 }
 
-// Tests 3 to 8; P0 is 101,300 Pa.
+// Tests 3 to 8.
 fn judge(c: Case, room: usize) -> Verdict
     ensures { λ r. ⌜ r ≡ caseVerdict c room ⌝ }
 {
@@ -196,10 +199,10 @@ fn judge(c: Case, room: usize) -> Verdict
         return Verdict::Refused(Refusal::Heat);
     }
     let cloud = guidance::cloud_of(c);
-    if guidance::is_beyond(c, cloud, 101300) {
+    if guidance::is_beyond(c, cloud, guidance::STANDARD_AIR) {
         return Verdict::Refused(Refusal::Beyond);
     }
-    if room < 77 {
+    if room < ANSWER {
         return Verdict::Refused(Refusal::Space);
     }
     Verdict::Accepted(c)

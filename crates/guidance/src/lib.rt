@@ -15,6 +15,9 @@ mod readings;
 mod substances;
 mod words;
 
+// The air pressure of a frame of 22 bytes, Pa (001).
+pub const STANDARD_AIR: u64 = 101300;
+
 // A case, field by field as its frame gives it.
 pub struct Case {
     // 0 unlisted; 1 to 75

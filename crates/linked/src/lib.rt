@@ -5,11 +5,6 @@ ghost use Rattle.frame.specs.Verdicts.{frameVerdict, lineVerdict};
 ghost use Rattle.linked.specs.Codes.{code, Entered, PressureAnswered};
 use frame::Verdict;
 
-// The air pressure of a frame, Pa, and the bytes of an answer.
-const AIR: u64 = 101300;
-
-const ANSWER: usize = 77;
-
 // 0, or the refusal's number.
 fn code_of(v: Verdict) -> u64
     ensures { λ n. ⌜ n ≡ code v ⌝ }
@@ -43,11 +38,11 @@ pub extern "C" fn yakepuhi_from_line(line: &[u8], area: &mut [u8]) -> u64
 pub extern "C" fn yakepuhi_overpressure(frame: &[u8], lower: &mut u64, upper: &mut u64) -> u64
     ensures { λ n. ⌜ PressureAnswered (now (frame .entry)) (now (lower .entry)) (now (upper .entry)) n (now (lower .exit)) (now (upper .exit)) ⌝ }
 {
-    let v = frame::decide_frame(frame, ANSWER);
+    let v = frame::decide_frame(frame, frame::ANSWER);
     match v {
         Verdict::Refused(r) => frame::number_of(r),
         Verdict::Accepted(c) => {
-            let e = blast::pressure(c, AIR);
+            let e = blast::pressure(c, guidance::STANDARD_AIR);
             *lower = e.lower;
             *upper = e.upper;
             0

@@ -34,7 +34,7 @@ fn air_root(air: u64) -> Span
     requires { ⌜ Air air ⌝ }
     ensures { λ r. ⌜ AirRoot air r ⌝ }
 {
-    if air == 101300 {
+    if air == guidance::STANDARD_AIR {
         return coefficients::STANDARD_ROOT;
     }
     root(air, 3)
