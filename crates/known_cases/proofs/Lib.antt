@@ -1,2 +1,3 @@
 -- What several proofs cite.
 pub mod Laws
+pub mod Summing

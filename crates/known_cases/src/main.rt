@@ -6,15 +6,15 @@ use frame::Verdict;
 
 mod figures;
 mod scan;
+mod sums;
 
 // The byte that fills an area before its answer.
 const FILL: u8 = 170;
 
-// What a vector shows: 1 or 0 for an accepted case, how many of its tests failed, the sum of its values.
+// What a vector shows: 1 or 0 for an accepted case, how many of its tests failed.
 struct Finding {
     accepted: u64,
     faults: u64,
-    sum: u64,
 }
 
 // Counts of a file's vectors.
@@ -22,7 +22,6 @@ struct Tally {
     accepted: u64,
     refused: u64,
     faulty: u64,
-    sum: u64,
 }
 
 fn print(text: &[u8]) {
@@ -81,27 +80,21 @@ fn after_values(vector: &[u8], from: usize) -> usize
     at
 }
 
-// The seven figures against the seven values that start at `from`.
-fn compare(vector: &[u8], from: usize, area: &[u8; 80], table: &[u8]) -> Finding
+// How many of the seven figures are wrong by the seven values that start at `from`.
+fn compare(vector: &[u8], from: usize, area: &[u8; 80], table: &[u8]) -> u64
     requires { ⌜ from ≤ length (now vector) ⌝ }
 {
     let mut at = from;
     let mut i = 0;
     let mut faults = 0;
-    let mut sum = 0;
     while i < 7 {
         let w = scan::next_word(vector, at);
         let ok = figures::is_right(area, i, w.lead, w.value, table);
         faults = scan::sum(faults, fault(ok));
-        sum = scan::sum(sum, w.value);
         at = w.next;
         i += 1;
     }
-    Finding {
-        accepted: 1,
-        faults,
-        sum,
-    }
+    faults
 }
 
 // A vector that is to be accepted: its values start at `from`, its line follows them.
@@ -111,14 +104,13 @@ fn judge_accepted(vector: &[u8], from: usize, room: usize, range: u64, table: &[
     let at = after_values(vector, from);
     let mut area = [FILL; 80];
     let refusal = answer_to(&vector[at..], &mut area, room);
-    let found = compare(vector, from, &area, table);
+    let wrong = compare(vector, from, &area, table);
     let verdict = fault(refusal == 0);
     let speed = fault(scan::wide(area[0]) == range);
     let rest = fault(is_kept(&area, 77));
     Finding {
         accepted: 1,
-        faults: scan::sum(found.faults, verdict + speed + rest),
-        sum: found.sum,
+        faults: scan::sum(wrong, verdict + speed + rest),
     }
 }
 
@@ -133,7 +125,6 @@ fn judge_refused(vector: &[u8], from: usize, room: usize, refusal: u64) -> Findi
     Finding {
         accepted: 0,
         faults: verdict + rest,
-        sum: refusal,
     }
 }
 
@@ -169,7 +160,6 @@ fn counted(t: Tally, f: Finding) -> Tally {
         accepted: scan::sum(t.accepted, f.accepted),
         refused: scan::sum(t.refused, fault(f.accepted == 1)),
         faulty: scan::sum(t.faulty, fault(f.faults == 0)),
-        sum: scan::sum(t.sum, f.sum),
     }
 }
 
@@ -179,7 +169,6 @@ fn judge_all(text: &[u8], table: &[u8]) -> Tally {
         accepted: 0,
         refused: 0,
         faulty: 0,
-        sum: 0,
     };
     let mut at = 0;
     while at < text.len() {
@@ -198,14 +187,20 @@ fn print_count(n: u64, what: &[u8]) {
     print(what);
 }
 
+// The number of a file's bytes, which any one byte changes.
+fn print_sum(text: &[u8]) {
+    print(b"; sum of its bytes ");
+    print_number(sums::sum_of(text));
+    print(b"\n");
+}
+
 fn report(name: &[u8], t: Tally) {
     print(name);
     print(b": ");
     print_count(scan::sum(t.accepted, t.refused), b" lines, ");
     print_count(t.accepted, b" accepted, ");
     print_count(t.refused, b" refused, ");
-    print_count(t.faulty, b" with a fault; sum of the values ");
-    print_count(t.sum, b"\n");
+    print_count(t.faulty, b" with a fault");
 }
 
 // Reads a file of the data into the space, and answers its length.
@@ -223,6 +218,7 @@ fn group(name: &[u8], table: &[u8]) {
     let n = load(name, &mut space);
     let tally = judge_all(&space[..n], table);
     report(name, tally);
+    print_sum(&space[..n]);
 }
 
 // A word in two's complement.
@@ -302,6 +298,8 @@ fn show_examples() {
     let mut space = io::buffer();
     let n = load(b"printed", &mut space);
     show_all(&space[..n]);
+    print(b"printed: the examples above");
+    print_sum(&space[..n]);
 }
 
 // Whether the interval at `at` of the line's answer lies within the two numbers.
@@ -354,8 +352,10 @@ fn show_near() {
     let mut space = io::buffer();
     let n = load(b"near", &mut space);
     let found = figures_near(&space[..n]);
-    print_count(found.lines, b" near figures, ");
-    print_count(found.far, b" with a fault\n");
+    print(b"near: ");
+    print_count(found.lines, b" figures, ");
+    print_count(found.far, b" with a fault");
+    print_sum(&space[..n]);
 }
 
 // Table 3 around its ends.
@@ -376,6 +376,8 @@ fn main() {
     let mut space = io::buffer();
     let n = load(b"table", &mut space);
     let table = &space[..n];
+    print(b"table: Table 3");
+    print_sum(table);
     group(b"known", table);
     group(b"examples", table);
     group(b"substances", table);

@@ -6,10 +6,10 @@ use Rattle.known_cases.proofs.compare.Statement.{statement}
 use Rattle.known_cases.proofs.compare.Tie as tie
 
 abbrev Inv-loop : tie.InvT-loop
-Inv-loop vector from area table at₀ i₀ faults₀ sum₀ at i faults sum = at ≤ length vector
+Inv-loop vector from area table at₀ i₀ faults₀ at i faults = at ≤ length vector
 
 abbrev μ-loop : tie.MeasureT-loop
-μ-loop vector from area table at₀ i₀ faults₀ sum₀ at i faults sum = 7 - i
+μ-loop vector from area table at₀ i₀ faults₀ at i faults = 7 - i
 
 loop-holds : tie.Need-loop-holds Inv-loop μ-loop
 loop-holds c = search needs
@@ -25,9 +25,6 @@ fault-requires c κs = search needs
 
 sum-requires : tie.Need-sum-requires Inv-loop μ-loop
 sum-requires c κs = search needs
-
-sum-requires-2 : tie.Need-sum-requires-2 Inv-loop μ-loop
-sum-requires-2 c κs = search needs
 
 add-i : tie.Need-add-i Inv-loop μ-loop
 add-i c = search needs
@@ -52,7 +49,6 @@ compare-spec =
     is-right-requires
     fault-requires
     sum-requires
-    sum-requires-2
     add-i
     loop-less
     loop-again

@@ -1,0 +1,14 @@
+-- A file's bytes as the digits of one number to the base 256, and its remainder by a prime.
+use Prim.Native.Nat.{ℕ, _+_, _*_, _%_}
+use mathlib.Core.List.{List, [], _∷_}
+
+abbrev pub prime : ℕ
+prime = 1000000007
+
+-- the remainder with one byte more
+abbrev pub next : (sum byte : ℕ) → ℕ
+next sum byte = (256 * sum + byte) % prime
+
+unfoldable pub sumOf : (sum : ℕ) → List ℕ → ℕ
+sumOf sum [] = sum
+sumOf sum (b ∷ bytes) = sumOf (next sum b) bytes
