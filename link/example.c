@@ -1,4 +1,4 @@
-/* Calls Yakepuhi from C: a case, its overpressure alone, a wrong line and an area that is too short, each printed in readable form. */
+/* Calls Yakepuhi from C: a case as a line and as a frame's bytes, its overpressure alone, a wrong line and an area that is too short, each printed in readable form. */
 #include "yakepuhi.h"
 
 #include <inttypes.h>
@@ -28,18 +28,34 @@ static void print_answer(const uint8_t a[YAKEPUHI_ANSWER])
     }
 }
 
-static void ask(const char *title, const char *line, size_t room)
+enum { AREA = YAKEPUHI_ANSWER + 3, MARK = 0xEE };
+
+/* The verdict, the answer, and how many bytes past it kept their mark. */
+static void show(const char *title, uint64_t refusal, const uint8_t area[AREA])
 {
-    uint8_t area[YAKEPUHI_ANSWER + 3];
-    memset(area, 0xEE, sizeof area);
-    uint64_t refusal = yakepuhi_from_line((const uint8_t *)line, strlen(line), area, room);
     printf("%s: %s\n", title, words[refusal]);
     if (refusal == 0)
         print_answer(area);
     size_t kept = 0;
-    for (size_t i = refusal == 0 ? YAKEPUHI_ANSWER : 0; i < sizeof area; i++)
-        kept += area[i] == 0xEE;
+    for (size_t i = refusal == 0 ? YAKEPUHI_ANSWER : 0; i < AREA; i++)
+        kept += area[i] == MARK;
     printf("  %zu bytes of the area kept\n", kept);
+}
+
+static void ask(const char *title, const char *line, size_t room)
+{
+    uint8_t area[AREA];
+    memset(area, MARK, sizeof area);
+    uint64_t refusal = yakepuhi_from_line((const uint8_t *)line, strlen(line), area, room);
+    show(title, refusal, area);
+}
+
+static void ask_frame(const char *title, const uint8_t *frame, size_t length)
+{
+    uint8_t area[AREA];
+    memset(area, MARK, sizeof area);
+    uint64_t refusal = yakepuhi_from_frame(frame, length, area, sizeof area);
+    show(title, refusal, area);
 }
 
 int main(void)
@@ -48,7 +64,8 @@ int main(void)
     static const char line[] = "11000104007A1200057803020000B540000027100046";
     static const uint8_t frame[YAKEPUHI_FRAME] = { 0x11, 0, 1, 4, 0, 0x7A, 0x12, 0, 5, 0x78, 3, 2, 0, 0, 0xB5, 0x40, 0, 0, 0x27, 0x10, 0, 0x46 };
     uint64_t lower = 0, upper = 0;
-    ask("a case", line, YAKEPUHI_ANSWER + 3);
+    ask("a case", line, AREA);
+    ask_frame("the same from its bytes", frame, sizeof frame);
     uint64_t refusal = yakepuhi_overpressure(frame, sizeof frame, &lower, &upper);
     printf("its overpressure alone: %s\n  %" PRIu64 " to %" PRIu64 " Pa\n", words[refusal], lower, upper);
     ask("a wrong line", "11000104007A1200057803020000B54000002710004G", YAKEPUHI_ANSWER);

@@ -1,4 +1,4 @@
-{ Calls Yakepuhi from Free Pascal: a case, its overpressure alone, a wrong line and an area that is too short, each printed in readable form. }
+{ Calls Yakepuhi from Free Pascal: a case as a line and as a frame's bytes, its overpressure alone, a wrong line and an area that is too short, each printed in readable form. }
 program example;
 
 {$mode objfpc}{$H+}
@@ -7,6 +7,7 @@ program example;
 
 const
   AnswerBytes = 77;
+  Mark = $EE;
   Words: array[0..8] of string = ('accepted', 'length', 'digit', 'substance', 'setting', 'quantity', 'heat', 'beyond', 'space');
   { 8 t of propane on the ground, 100 m away }
   Line = '11000104007A1200057803020000B540000027100046';
@@ -17,6 +18,7 @@ type
 
 { The promises of these are in yakepuhi.h. }
 function yakepuhi_from_line(line: PByte; lineLength: SizeUInt; area: PByte; areaLength: SizeUInt): QWord; cdecl; external;
+function yakepuhi_from_frame(frame: PByte; frameLength: SizeUInt; area: PByte; areaLength: SizeUInt): QWord; cdecl; external;
 function yakepuhi_overpressure(frame: PByte; frameLength: SizeUInt; lower, upper: PQWord): QWord; cdecl; external;
 
 function Two(const a: TArea; at: Integer): LongWord;
@@ -57,14 +59,11 @@ begin
       ', damage ', Percent(Two(a, 57 + 4 * i)), ' to ', Percent(Two(a, 59 + 4 * i)), ' %');
 end;
 
-procedure Ask(const title, text: string; room: SizeUInt);
+{ The verdict, the answer, and how many bytes past it kept their mark. }
+procedure Show(const title: string; refusal: QWord; const area: TArea);
 var
-  area: TArea;
-  refusal: QWord;
   i, first, kept: Integer;
 begin
-  FillChar(area, SizeOf(area), $EE);
-  refusal := yakepuhi_from_line(PByte(PChar(text)), Length(text), @area[0], room);
   WriteLn(title, ': ', Words[refusal]);
   first := 0;
   if refusal = 0 then
@@ -74,8 +73,28 @@ begin
   end;
   kept := 0;
   for i := first to High(area) do
-    if area[i] = $EE then Inc(kept);
+    if area[i] = Mark then Inc(kept);
   WriteLn('  ', kept, ' bytes of the area kept');
+end;
+
+procedure Ask(const title, text: string; room: SizeUInt);
+var
+  area: TArea;
+  refusal: QWord;
+begin
+  FillChar(area, SizeOf(area), Mark);
+  refusal := yakepuhi_from_line(PByte(PChar(text)), Length(text), @area[0], room);
+  Show(title, refusal, area);
+end;
+
+procedure AskFrame(const title: string; bytes: PByte; count: SizeUInt);
+var
+  area: TArea;
+  refusal: QWord;
+begin
+  FillChar(area, SizeOf(area), Mark);
+  refusal := yakepuhi_from_frame(bytes, count, @area[0], SizeOf(area));
+  Show(title, refusal, area);
 end;
 
 var
@@ -84,6 +103,7 @@ begin
   lower := 0;
   upper := 0;
   Ask('a case', Line, AnswerBytes + 3);
+  AskFrame('the same from its bytes', @Frame[0], SizeOf(Frame));
   refusal := yakepuhi_overpressure(@Frame[0], SizeOf(Frame), @lower, @upper);
   WriteLn('its overpressure alone: ', Words[refusal]);
   WriteLn('  ', lower, ' to ', upper, ' Pa');

@@ -5,22 +5,31 @@ ghost use Rattle.io.specs.Counts.{Counts};
 use frame::Verdict;
 
 mod figures;
+mod frames;
 mod scan;
 mod sums;
 
 // The byte that fills an area before its answer.
 const FILL: u8 = 170;
 
-// What a vector shows: 1 or 0 for an accepted case, how many of its tests failed.
+// What a vector shows: 1 or 0 for an accepted case and for a frame that is answered as its line, how many tests failed.
 struct Finding {
     accepted: u64,
+    alike: u64,
     faults: u64,
+}
+
+// A line and its frame: 1 or 0 where they are answered alike, and where they are not. A line that spells no frame has two 0.
+struct Pair {
+    alike: u64,
+    unlike: u64,
 }
 
 // Counts of a file's vectors.
 struct Tally {
     accepted: u64,
     refused: u64,
+    alike: u64,
     faulty: u64,
 }
 
@@ -47,6 +56,13 @@ fn answer_to(line: &[u8], area: &mut [u8], room: usize) -> u64
     number(answer::from_line(line, &mut area[..room]))
 }
 
+// The same for a frame.
+fn answer_to_frame(frame: &[u8], area: &mut [u8], room: usize) -> u64
+    requires { ⌜ room ≤ length (now area) ⌝ }
+{
+    number(answer::from_frame(frame, &mut area[..room]))
+}
+
 // Whether the area's bytes from `from` on are as they were.
 fn is_kept(area: &[u8; 80], from: usize) -> bool {
     let mut at = from;
@@ -63,6 +79,50 @@ fn fault(ok: bool) -> u64
     ensures { λ r. ⌜ r ≤ 1 ⌝ }
 {
     if ok { 0 } else { 1 }
+}
+
+// Whether a line and its frame get the same verdict, and the same bytes in an area each.
+fn is_alike(line: &[u8], frame: &[u8; 22], room: usize) -> bool
+    requires { ⌜ room ≤ 80 ⌝ }
+{
+    let mut first = [FILL; 80];
+    let mut second = [FILL; 80];
+    let by_line = answer_to(line, &mut first, room);
+    let by_frame = answer_to_frame(frame, &mut second, room);
+    if by_line != by_frame {
+        return false;
+    }
+    check::same(&first, &second)
+}
+
+// A line, and the frame that it spells if it is one of 44 digits.
+fn compare_entries(line: &[u8], room: usize) -> Pair
+    requires { ⌜ room ≤ 80 ⌝ }
+{
+    let mut frame = [0u8; 22];
+    if line.len() != 44 {
+        return Pair {
+            alike: 0,
+            unlike: 0,
+        };
+    }
+    if !frames::spell(line, &mut frame) {
+        return Pair {
+            alike: 0,
+            unlike: 0,
+        };
+    }
+    if is_alike(line, &frame, room) {
+        Pair {
+            alike: 1,
+            unlike: 0,
+        }
+    } else {
+        Pair {
+            alike: 0,
+            unlike: 1,
+        }
+    }
 }
 
 // The place after the seven values that start at `from`.
@@ -108,9 +168,11 @@ fn judge_accepted(vector: &[u8], from: usize, room: usize, range: u64, table: &[
     let verdict = fault(refusal == 0);
     let speed = fault(scan::wide(area[0]) == range);
     let rest = fault(is_kept(&area, 77));
+    let pair = compare_entries(&vector[at..], room);
     Finding {
         accepted: 1,
-        faults: scan::sum(wrong, verdict + speed + rest),
+        alike: pair.alike,
+        faults: scan::sum(scan::sum(wrong, pair.unlike), verdict + speed + rest),
     }
 }
 
@@ -122,9 +184,11 @@ fn judge_refused(vector: &[u8], from: usize, room: usize, refusal: u64) -> Findi
     let found = answer_to(&vector[from..], &mut area, room);
     let verdict = fault(found == refusal);
     let rest = fault(is_kept(&area, 0));
+    let pair = compare_entries(&vector[from..], room);
     Finding {
         accepted: 0,
-        faults: verdict + rest,
+        alike: pair.alike,
+        faults: scan::sum(pair.unlike, verdict + rest),
     }
 }
 
@@ -159,6 +223,7 @@ fn counted(t: Tally, f: Finding) -> Tally {
     Tally {
         accepted: scan::sum(t.accepted, f.accepted),
         refused: scan::sum(t.refused, fault(f.accepted == 1)),
+        alike: scan::sum(t.alike, f.alike),
         faulty: scan::sum(t.faulty, fault(f.faults == 0)),
     }
 }
@@ -168,6 +233,7 @@ fn judge_all(text: &[u8], table: &[u8]) -> Tally {
     let mut t = Tally {
         accepted: 0,
         refused: 0,
+        alike: 0,
         faulty: 0,
     };
     let mut at = 0;
@@ -200,6 +266,7 @@ fn report(name: &[u8], t: Tally) {
     print_count(scan::sum(t.accepted, t.refused), b" lines, ");
     print_count(t.accepted, b" accepted, ");
     print_count(t.refused, b" refused, ");
+    print_count(t.alike, b" answered alike from the frame, ");
     print_count(t.faulty, b" with a fault");
 }
 
@@ -370,9 +437,31 @@ fn show_readings() {
     );
 }
 
+fn is_refused_for_length(frame: &[u8]) -> bool {
+    let mut area = [FILL; 80];
+    answer_to_frame(frame, &mut area, 80) == 1
+}
+
+// How many of the frames of 0 to 79 bytes are refused for their length.
+fn lengths_refused() -> u64 {
+    let frame = [FILL; 80];
+    let mut refused = 0;
+    let mut n = 0;
+    while n < 80 {
+        let other = is_refused_for_length(&frame[..n]);
+        refused = scan::sum(refused, fault(!other));
+        n += 1;
+    }
+    refused
+}
+
 fn main() {
     show_near();
     show_readings();
+    print_count(
+        lengths_refused(),
+        b" of 79 frames of other lengths refused for it\n",
+    );
     let mut space = io::buffer();
     let n = load(b"table", &mut space);
     let table = &space[..n];
