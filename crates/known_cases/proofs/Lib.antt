@@ -1,4 +1,6 @@
 -- What several proofs cite.
-pub mod Laws
-pub mod Summing
+pub mod Enclosed
+pub mod Folds
+pub mod Raised
+pub mod Words
 pub mod Worths

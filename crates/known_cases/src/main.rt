@@ -141,7 +141,7 @@ fn after_values(vector: &[u8], from: usize) -> usize
 }
 
 // How many of the seven figures are wrong by the seven values that start at `from`.
-fn compare(vector: &[u8], from: usize, area: &[u8; 80], table: &[u8]) -> u64
+fn compare(vector: &[u8], from: usize, area: &[u8; 80], table: &[u64; 216]) -> u64
     requires { ⌜ from ≤ length (now vector) ⌝ }
 {
     let mut at = from;
@@ -158,7 +158,13 @@ fn compare(vector: &[u8], from: usize, area: &[u8; 80], table: &[u8]) -> u64
 }
 
 // A vector that is to be accepted: its values start at `from`, its line follows them.
-fn judge_accepted(vector: &[u8], from: usize, room: usize, range: u64, table: &[u8]) -> Finding
+fn judge_accepted(
+    vector: &[u8],
+    from: usize,
+    room: usize,
+    range: u64,
+    table: &[u64; 216],
+) -> Finding
     requires { ⌜ (from ≤ length (now vector)) × (room ≤ 80) ⌝ }
 {
     let at = after_values(vector, from);
@@ -199,7 +205,7 @@ fn room_of(value: u64) -> usize
 }
 
 // A vector: the room, A with the range or R with the refusal, the values, the line.
-fn judge(vector: &[u8], table: &[u8]) -> Finding {
+fn judge(vector: &[u8], table: &[u64; 216]) -> Finding {
     let first = scan::next_word(vector, 0);
     let verdict = scan::next_word(vector, first.next);
     let room = room_of(first.value);
@@ -229,7 +235,7 @@ fn counted(t: Tally, f: Finding) -> Tally {
 }
 
 // Every vector of a file.
-fn judge_all(text: &[u8], table: &[u8]) -> Tally {
+fn judge_all(text: &[u8], table: &[u64; 216]) -> Tally {
     let mut t = Tally {
         accepted: 0,
         refused: 0,
@@ -280,7 +286,7 @@ fn load(name: &[u8], space: &mut [u8]) -> usize
     n
 }
 
-fn group(name: &[u8], table: &[u8]) {
+fn group(name: &[u8], table: &[u64; 216]) {
     let mut space = io::large_buffer();
     let n = load(name, &mut space);
     let tally = judge_all(&space[..n], table);
@@ -455,6 +461,20 @@ fn lengths_refused() -> u64 {
     refused
 }
 
+// Table 3, two words a line: tenths of a percent, probit in hundredths.
+fn table_of(text: &[u8]) -> [u64; 216] {
+    let mut table = [0u64; 216];
+    let mut at = 0;
+    let mut i: usize = 0;
+    while i < 216 {
+        let w = scan::next_word(text, at);
+        table[i] = w.value;
+        at = w.next;
+        i += 1;
+    }
+    table
+}
+
 fn main() {
     show_near();
     show_readings();
@@ -464,17 +484,17 @@ fn main() {
     );
     let mut space = io::buffer();
     let n = load(b"table", &mut space);
-    let table = &space[..n];
+    let table = table_of(&space[..n]);
     print(b"table: Table 3");
-    print_sum(table);
-    group(b"known", table);
-    group(b"examples", table);
-    group(b"substances", table);
-    group(b"classes", table);
-    group(b"branches", table);
-    group(b"boundaries", table);
-    group(b"extremes", table);
-    group(b"refusals", table);
-    group(b"random", table);
+    print_sum(&space[..n]);
+    group(b"known", &table);
+    group(b"examples", &table);
+    group(b"substances", &table);
+    group(b"classes", &table);
+    group(b"branches", &table);
+    group(b"boundaries", &table);
+    group(b"extremes", &table);
+    group(b"refusals", &table);
+    group(b"random", &table);
     show_examples();
 }

@@ -1,8 +1,8 @@
 // The lines of a data file, and the words of a line.
 ghost use mathlib.Core.Path.{_≡_};
 ghost use Prim.Native.Nat.{_+_, _%_, _^_, _≤_, _<_};
-ghost use lib.ListN.{length};
-ghost use Rattle.known_cases.specs.Scan.{Between, Passed, largest};
+ghost use lib.ListN.{length, getD};
+ghost use Rattle.known_cases.specs.Scan.{Between, Passed, largest, placeOf, shifted as Scan·shifted, spelled, past, wordAt};
 
 // A word: its first byte, the number that its digits spell, and the place after the byte that ends it.
 pub struct Word {
@@ -27,7 +27,7 @@ pub fn sum(a: u64, b: u64) -> u64
 // The first place from `from` on where `a` or `b` stands, or the length.
 fn find(text: &[u8], from: usize, a: u8, b: u8) -> usize
     requires { ⌜ from ≤ length (now text) ⌝ }
-    ensures { λ r. ⌜ Between from r (length (now (text .entry))) ⌝ }
+    ensures { λ r. ⌜ (r ≡ placeOf (now (text .entry)) from a b) × Between from r (length (now (text .entry))) ⌝ }
 {
     let mut at = from;
     while at < text.len() {
@@ -45,7 +45,7 @@ fn find(text: &[u8], from: usize, a: u8, b: u8) -> usize
 // The end of the line that starts at `from`.
 pub fn line_end(text: &[u8], from: usize) -> usize
     requires { ⌜ from ≤ length (now text) ⌝ }
-    ensures { λ r. ⌜ Between from r (length (now (text .entry))) ⌝ }
+    ensures { λ r. ⌜ (r ≡ placeOf (now (text .entry)) from 10 10) × Between from r (length (now (text .entry))) ⌝ }
 {
     find(text, from, b'\n', b'\n')
 }
@@ -53,7 +53,7 @@ pub fn line_end(text: &[u8], from: usize) -> usize
 // One digit more; any other byte, as the point, changes nothing.
 fn shifted(value: u64, b: u8) -> u64
     requires { ⌜ value ≤ largest ⌝ }
-    ensures { λ r. ⌜ r ≤ largest ⌝ }
+    ensures { λ r. ⌜ (r ≡ Scan·shifted value b) × (r ≤ largest) ⌝ }
 {
     let digit = wide(b);
     if digit < 48 {
@@ -68,26 +68,28 @@ fn shifted(value: u64, b: u8) -> u64
     10 * value + (digit - 48)
 }
 
-fn number(text: &[u8], from: usize, to: usize) -> u64
-    requires { ⌜ to ≤ length (now text) ⌝ }
-    ensures { λ r. ⌜ r ≤ largest ⌝ }
+// The number that the digits of a word spell.
+fn number(word: &[u8]) -> u64
+    ensures { λ r. ⌜ (r ≡ spelled (now (word .entry))) × (r ≤ largest) ⌝ }
 {
     let mut value = 0;
-    let mut at = from;
-    while at < to {
-        value = shifted(value, text[at]);
+    let mut at = 0;
+    while at < word.len() {
+        value = shifted(value, word[at]);
         at += 1;
     }
     value
 }
 
-fn lead_at(text: &[u8], at: usize) -> u8 {
+fn lead_at(text: &[u8], at: usize) -> u8
+    ensures { λ r. ⌜ r ≡ getD (now (text .entry)) at 0 ⌝ }
+{
     if at < text.len() { text[at] } else { 0 }
 }
 
 fn after(end: usize, size: usize) -> usize
     requires { ⌜ end ≤ size ⌝ }
-    ensures { λ r. ⌜ Passed end 0 r size ⌝ }
+    ensures { λ r. ⌜ (r ≡ past end size) × Passed end 0 r size ⌝ }
 {
     if end < size { end + 1 } else { end }
 }
@@ -95,10 +97,10 @@ fn after(end: usize, size: usize) -> usize
 // The word that starts at `from`; a space or the line's end ends it.
 pub fn next_word(text: &[u8], from: usize) -> Word
     requires { ⌜ from ≤ length (now text) ⌝ }
-    ensures { λ r. ⌜ Passed from (r .value) (r .next) (length (now (text .entry))) ⌝ }
+    ensures { λ r. ⌜ (r ≡ wordAt (now (text .entry)) from) × Passed from (r .value) (r .next) (length (now (text .entry))) ⌝ }
 {
     let end = find(text, from, b' ', b'\n');
-    let value = number(text, from, end);
+    let value = number(&text[from..end]);
     Word {
         lead: lead_at(text, from),
         value,

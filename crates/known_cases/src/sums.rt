@@ -14,7 +14,7 @@ fn with_byte(sum: u64, b: u8) -> u64
 
 // The file as one number to the base 256, and its remainder by a prime.
 pub fn sum_of(text: &[u8]) -> u64
-    ensures { λ r. ⌜ r ≡ sumOf 0 (now (text .entry)) ⌝ }
+    ensures { λ r. ⌜ r ≡ sumOf (now (text .entry)) ⌝ }
 {
     let mut sum = 0;
     let mut at = 0;

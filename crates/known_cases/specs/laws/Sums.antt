@@ -1,13 +1,13 @@
 -- Two files that differ in one byte have different sums. Assumes nothing.
 use Prim.Native.Nat.{ℕ, _+_, _*_, _/_, _%_, _<_}
 use mathlib.Core.Path.{_≡_, sym, ap, _∙_}
-use mathlib.Core.List.{List, [], _∷_, _++_}
+use mathlib.Core.List.{List, [], _∷_, _++_, foldl, foldl-append}
 use native.Mathlib.Nat.{div-add-mod', mod-lt, mod-eq-of-lt, add-mul-mod-self-left}
 use native.Mathlib.Omega.{arith}
 use Rattle.known_cases.specs.Sums.{prime, next, sumOf}
 
-small : (n : ℕ) → n % prime < prime
-small n = mod-lt n (omega arith)
+small : (sum b : ℕ) → next sum b < prime
+small sum b = mod-lt (256 * sum + b) (omega arith)
 
 -- a remainder is below the divisor, whatever the quotients
 same-rest : (r s f g : ℕ) → r < prime → s < prime → r + prime * f ≡ s + prime * g → r ≡ s
@@ -24,13 +24,17 @@ same-sum r s b h k e =
 same-byte : (r b c : ℕ) → b < 256 → c < 256 → next r b ≡ next r c → b ≡ c
 same-byte r b c h k e = omega (arith, div-add-mod' (256 * r + b) prime, div-add-mod' (256 * r + c) prime)
 
-same-start : (bytes : List ℕ) (r s : ℕ) → r < prime → s < prime → sumOf r bytes ≡ sumOf s bytes → r ≡ s
-unfolding sumOf
+same-start : (bytes : List ℕ) (r s : ℕ) → r < prime → s < prime → foldl next r bytes ≡ foldl next s bytes → r ≡ s
 same-start [] r s h k e = e
-same-start (b ∷ bytes) r s h k e = same-sum r s b h k (same-start bytes (next r b) (next s b) (small _) (small _) e)
+same-start (b ∷ bytes) r s h k e = same-sum r s b h k (same-start bytes (next r b) (next s b) (small r b) (small s b) e)
 
 -- a byte b anywhere in a file, and another c in its place
-pub one-byte : (front back : List ℕ) (b c sum : ℕ) → b < 256 → c < 256 → sumOf sum (front ++ (b ∷ back)) ≡ sumOf sum (front ++ (c ∷ back)) → b ≡ c
-unfolding sumOf
-one-byte [] back b c sum h k e = same-byte sum b c h k (same-start back (next sum b) (next sum c) (small _) (small _) e)
-one-byte (a ∷ front) back b c sum h k e = one-byte front back b c (next sum a) h k e
+pub one-byte : (front back : List ℕ) (b c : ℕ)
+    → b < 256
+    → c < 256
+    → sumOf (front ++ (b ∷ back)) ≡ sumOf (front ++ (c ∷ back))
+    → b ≡ c
+one-byte front back b c h k e =
+    let r = sumOf front in
+    let e′ = sym (foldl-append next 0 front (b ∷ back)) ∙ e ∙ foldl-append next 0 front (c ∷ back) in
+    same-byte r b c h k (same-start back (next r b) (next r c) (small r b) (small r c) e′)

@@ -1,7 +1,5 @@
--- `known_cases::figures::contains` answers true only where the interval holds the value: by its whole part and its rest. Assumes nothing.
-use borrow.Author.Tests.{leb-true, ltb-true}
-use Rattle.known_cases.proofs.Laws.{never, exactly-contained, between-contained}
-use native.Mathlib.Omega.{arith}
+-- `known_cases::figures::contains` meets its contract, by the whole part of the value and its rest. Assumes nothing.
+use Rattle.known_cases.proofs.Enclosed.{not-contained, exactly-contained, between-contained}
 use borrow.Author.Needs.{needs}
 use Rattle.known_cases.proofs.figures.contains.Statement.{statement}
 use Rattle.known_cases.proofs.figures.contains.Tie as tie
@@ -13,13 +11,13 @@ rem-rest : tie.Need-rem-rest
 rem-rest c = search needs
 
 returns : tie.Need-returns
-returns c = never
+returns c = not-contained _ _ _ _ (search needs) (c .if1 .taken)
 
 returns-2 : tie.Need-returns-2
-returns-2 c e = exactly-contained _ _ _ _ (omega arith) (omega arith) (leb-true _ _ e)
+returns-2 c = exactly-contained _ _ _ _ (search needs) (c .before .if1 .left) (c .if2 .taken)
 
 returns-3 : tie.Need-returns-3
-returns-3 c e = between-contained _ _ _ _ (omega arith) (omega arith) (ltb-true _ _ e)
+returns-3 c = between-contained _ _ _ _ (search needs) (c .before .if1 .left) (c .if2 .left)
 
 pub contains-spec : {M : Type 1} → statement M
 contains-spec = tie.close (tie.spec div-whole rem-rest returns returns-2 returns-3)

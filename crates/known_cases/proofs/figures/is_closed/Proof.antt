@@ -1,11 +1,11 @@
--- `known_cases::figures::is_closed` answers true only where the width is right. Assumes nothing.
-use Rattle.known_cases.proofs.Laws.{never, closed}
+-- `known_cases::figures::is_closed` meets its contract, by its two comparisons. Assumes nothing.
+use Rattle.known_cases.proofs.Enclosed.{not-closed, width-closed}
 use borrow.Author.Needs.{needs}
 use Rattle.known_cases.proofs.figures.is_closed.Statement.{statement}
 use Rattle.known_cases.proofs.figures.is_closed.Tie as tie
 
 returns : tie.Need-returns
-returns c = never
+returns c = not-closed _ _ (c .if1 .taken)
 
 mul-result : tie.Need-mul-result
 mul-result c = search needs
@@ -13,8 +13,15 @@ mul-result c = search needs
 add-result : tie.Need-add-result
 add-result c = search needs
 
+mul-result-2 : tie.Need-mul-result-2
+mul-result-2 c = search needs
+
+add-result-2 : tie.Need-add-result-2
+add-result-2 c = search needs
+
 returns-2 : tie.Need-returns-2
-returns-2 c = closed _ _ (c .if1 .left)
+returns-2 c = width-closed _ _ (c .if1 .left)
 
 pub is-closed-spec : {M : Type 1} → statement M
-is-closed-spec = tie.close (tie.spec returns mul-result add-result returns-2)
+is-closed-spec =
+    tie.close (tie.spec returns mul-result add-result mul-result-2 add-result-2 returns-2)

@@ -1,19 +1,20 @@
 -- `known_cases::sums::sum_of` meets its contract: the sum so far goes on over what is left. Assumes nothing.
-use Prim.Native.Nat.{_-_}
+use Prim.Native.Nat.{_-_, _<_}
 use lib.ListN.{length}
 use borrow.Author.Needs.{needs}
-use Rattle.known_cases.proofs.Summing.{Summed, sum-first, sum-again, sum-last}
+use Rattle.known_cases.specs.Sums.{prime, next}
+use Rattle.known_cases.proofs.Folds.{Folded, fold-first, fold-again, fold-last}
 use Rattle.known_cases.proofs.sums.sum_of.Statement.{statement}
 use Rattle.known_cases.proofs.sums.sum_of.Tie as tie
 
 abbrev Inv-loop : tie.InvT-loop
-Inv-loop text sum₀ at₀ sum at = Summed text at sum
+Inv-loop text sum₀ at₀ sum at = Folded next text at sum × (sum < prime)
 
 abbrev μ-loop : tie.MeasureT-loop
 μ-loop text sum₀ at₀ sum at = length text - at
 
 loop-holds : tie.Need-loop-holds Inv-loop μ-loop
-loop-holds c = sum-first _
+loop-holds c = (fold-first next _, search needs)
 
 shared-slice-read-with-byte : tie.Need-shared-slice-read-with-byte Inv-loop μ-loop
 shared-slice-read-with-byte c = search needs
@@ -28,10 +29,12 @@ loop-less : tie.Need-loop-less Inv-loop μ-loop
 loop-less c = search needs
 
 loop-again : tie.Need-loop-again Inv-loop μ-loop
-loop-again c = sum-again (c .before .before .before .loop .inv) (c .before .before .loop-test .taken) (c .with-byte .ensures)
+loop-again c =
+    let e = c .with-byte .ensures in
+    (fold-again (c .before .before .before .loop .inv .0) (c .before .before .loop-test .taken) (e .0), e .1)
 
 returns : tie.Need-returns Inv-loop μ-loop
-returns c = sum-last (c .before .loop .inv) (c .loop-test .left)
+returns c = fold-last (c .before .loop .inv .0) (c .loop-test .left)
 
 pub sum-of-spec : {M : Type 1} → statement M
 sum-of-spec =
