@@ -32,6 +32,7 @@ pub record Ranked (probit : ℕ) (table : List ℕ) (n : ℕ) : Type 0 where
   pub rest : rank probit table ≡ rankFrom (108 - n) n probit table
 
 pub rank-first : (probit : ℕ) (table : List ℕ) → Ranked probit table 0
+unfolding rank
 rank-first probit table = record { within = omega arith; rest = refl }
 
 module _ {probit : ℕ} {table : List ℕ} {n : ℕ} (c : Ranked probit table n) where
@@ -39,7 +40,7 @@ module _ {probit : ℕ} {table : List ℕ} {n : ℕ} (c : Ranked probit table n)
   one-left h = omega arith
 
   pub rank-again : n < 108 → reached (getD table (2 * n + 1) 0) probit ≡ true → Ranked probit table (n + 1)
-  unfolding rankFrom
+  unfolding rankFrom rank
   rank-again h e =
       record {
         within = omega arith;
@@ -47,11 +48,11 @@ module _ {probit : ℕ} {table : List ℕ} {n : ℕ} (c : Ranked probit table n)
       }
 
   pub rank-found : n < 108 → reached (getD table (2 * n + 1) 0) probit ≡ false → n ≡ rank probit table
-  unfolding rankFrom
+  unfolding rankFrom rank
   rank-found h e = sym (c .rest ∙ ap (λ (k : ℕ). rankFrom k n probit table) (one-left h) ∙ simp e)
 
   pub rank-last : 108 ≤ n → n ≡ rank probit table
-  unfolding rankFrom
+  unfolding rankFrom rank
   rank-last h = let e : 108 - n ≡ 0 = omega arith in sym (c .rest ∙ ap (λ (k : ℕ). rankFrom k n probit table) e)
 
 module _ (table : List ℕ) (n : ℕ) where

@@ -20,19 +20,19 @@ seek-first text from a b h = record { between = record { onward = omega arith; w
 
 module _ {text : List ℕ} {from a b at : ℕ} (c : Sought text from a b at) where
   pub seek-a : at < length text → getD text at 0 ≡ a → at ≡ placeOf text from a b
-  unfolding before
+  unfolding before placeOf
   seek-a h e =
       let none : before a b (drop at text) ≡ 0 = ap (before a b) (drop-cons text at 0 h) ∙ simp (eq-eqb _ _ e) in
       omega (arith, c .rest)
 
   pub seek-b : at < length text → (getD text at 0 ≡ a → ⊥) → getD text at 0 ≡ b → at ≡ placeOf text from a b
-  unfolding before
+  unfolding before placeOf
   seek-b h n e =
       let none : before a b (drop at text) ≡ 0 = ap (before a b) (drop-cons text at 0 h) ∙ simp (ne-eqb _ _ n, eq-eqb _ _ e) in
       omega (arith, c .rest)
 
   pub seek-again : at < length text → (getD text at 0 ≡ a → ⊥) → (getD text at 0 ≡ b → ⊥) → Sought text from a b (at + 1)
-  unfolding before
+  unfolding before placeOf
   seek-again h n m =
       let one : before a b (drop at text) ≡ suc (before a b (drop (suc at) text)) = ap (before a b) (drop-cons text at 0 h) ∙ simp (ne-eqb _ _ n, ne-eqb _ _ m) in
       record {
@@ -41,7 +41,7 @@ module _ {text : List ℕ} {from a b at : ℕ} (c : Sought text from a b at) whe
       }
 
   pub seek-last : length text ≤ at → at ≡ placeOf text from a b
-  unfolding before
+  unfolding before placeOf
   seek-last h =
       let none : before a b (drop at text) ≡ 0 = ap (before a b) (drop-of-length-le text h) in
       omega (arith, c .rest)

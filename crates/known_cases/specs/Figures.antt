@@ -16,7 +16,7 @@ unfoldable pub closed : (lower upper : ℕ) → Bool
 closed lower upper = leb lower upper && leb (10000 * upper) (20000 + lower + 10000 * lower)
 
 -- a pressure or an impulse, with twelve places of the value
-abbrev pub waveRight : (lower upper value : ℕ) → Bool
+unfoldable pub waveRight : (lower upper value : ℕ) → Bool
 waveRight lower upper value = contained lower upper value 1000000000000 && closed lower upper
 
 -- a word in two's complement and 200,000 more, so that a probit's thousandths are never below zero
@@ -28,7 +28,7 @@ unfoldable pub raisedValue : (lead value : ℕ) → ℕ
 raisedValue lead value = pick (eqb lead 45) (200000000000000 - value) (200000000000000 + value)
 
 -- a probit in raised thousandths, of which the ends are at most 2 apart
-abbrev pub probitRight : (lower upper value : ℕ) → Bool
+unfoldable pub probitRight : (lower upper value : ℕ) → Bool
 probitRight lower upper value = contained lower upper value 1000000000 && leb upper (lower + 2)
 
 -- whether a raised probit reaches an entry of Table 3 in hundredths
@@ -42,7 +42,7 @@ rankFrom zero n probit table = n
 rankFrom (suc left) n probit table = pick (reached (getD table (2 * n + 1) 0) probit) (rankFrom left (n + 1) probit table) n
 
 -- how many pairs are reached
-abbrev pub rank : (probit : ℕ) (table : List ℕ) → ℕ
+unfoldable pub rank : (probit : ℕ) (table : List ℕ) → ℕ
 rank probit table = rankFrom 108 0 probit table
 
 -- the tenths of the last entry that is reached, 0 where none is
@@ -50,7 +50,7 @@ unfoldable pub tenthsAt : (table : List ℕ) (rank : ℕ) → ℕ
 tenthsAt table n = pick (eqb n 0) 0 (getD table (2 * n - 2) 0)
 
 -- two damages: the readings at a probit's raised ends, the same or neighbours
-abbrev pub damageRight : (first second lower upper : ℕ) (table : List ℕ) → Bool
+unfoldable pub damageRight : (first second lower upper : ℕ) (table : List ℕ) → Bool
 damageRight first second lower upper table =
     eqb first (tenthsAt table (rank lower table))
     && eqb second (tenthsAt table (rank upper table))
@@ -58,7 +58,7 @@ damageRight first second lower upper table =
     && leb (rank upper table) (rank lower table + 1)
 
 -- the i-th figure of an answer from 0 on, in the order of the data: pressure, impulse, five probits with their damages
-abbrev pub right : (area : List ℕ) (i lead value : ℕ) (table : List ℕ) → Bool
+unfoldable pub right : (area : List ℕ) (i lead value : ℕ) (table : List ℕ) → Bool
 right area i lead value table =
     pick
     (ltb i 2)

@@ -22,7 +22,7 @@ before a b [] = 0
 before a b (x ∷ text) = pick (eqb x a || eqb x b) 0 (suc (before a b text))
 
 -- the first place from `from` on where a or b stands, or the length
-abbrev pub placeOf : (text : List ℕ) (from a b : ℕ) → ℕ
+unfoldable pub placeOf : (text : List ℕ) (from a b : ℕ) → ℕ
 placeOf text from a b = from + before a b (drop from text)
 
 -- one digit more; any other byte, as the point, changes nothing, nor does a digit too many
@@ -30,7 +30,7 @@ unfoldable pub shifted : (value byte : ℕ) → ℕ
 shifted value b = pick (within 48 57 b) (pick (leb value 1000000000000000000) (10 * value + (b - 48)) value) value
 
 -- the number that the digits of a word spell
-abbrev pub spelled : List ℕ → ℕ
+unfoldable pub spelled : List ℕ → ℕ
 spelled word = foldl shifted 0 word
 
 -- past the byte at a place, or the length

@@ -9,5 +9,5 @@ prime = 1000000007
 abbrev pub next : (sum byte : ℕ) → ℕ
 next sum byte = (256 * sum + byte) % prime
 
-abbrev pub sumOf : List ℕ → ℕ
+unfoldable pub sumOf : List ℕ → ℕ
 sumOf bytes = foldl next 0 bytes

@@ -34,6 +34,7 @@ pub one-byte : (front back : List ℕ) (b c : ℕ)
     → c < 256
     → sumOf (front ++ (b ∷ back)) ≡ sumOf (front ++ (c ∷ back))
     → b ≡ c
+unfolding sumOf
 one-byte front back b c h k e =
     let r = sumOf front in
     let e′ = sym (foldl-append next 0 front (b ∷ back)) ∙ e ∙ foldl-append next 0 front (c ∷ back) in

@@ -1,5 +1,6 @@
 -- `known_cases::figures::is_damage` meets its contract: its four tests are the definition's. Assumes nothing.
 use borrow.Author.Needs.{needs}
+use Rattle.known_cases.specs.Figures.{damageRight}
 use Rattle.known_cases.proofs.figures.is_damage.Statement.{statement}
 use Rattle.known_cases.proofs.figures.is_damage.Tie as tie
 
@@ -28,6 +29,7 @@ both-requires-3 : tie.Need-both-requires-3
 both-requires-3 c κs = search needs
 
 returns : tie.Need-returns
+unfolding damageRight
 returns c = cc
 
 pub is-damage-spec : {M : Type 1} → statement M

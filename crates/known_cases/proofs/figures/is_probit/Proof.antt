@@ -1,5 +1,6 @@
 -- `known_cases::figures::is_probit` meets its contract: both its tests are the definition's. Assumes nothing.
 use borrow.Author.Needs.{needs}
+use Rattle.known_cases.specs.Figures.{probitRight}
 use Rattle.known_cases.proofs.figures.is_probit.Statement.{statement}
 use Rattle.known_cases.proofs.figures.is_probit.Tie as tie
 
@@ -13,6 +14,7 @@ both-requires : tie.Need-both-requires
 both-requires c κs = search needs
 
 returns : tie.Need-returns
+unfolding probitRight
 returns c = cc
 
 pub is-probit-spec : {M : Type 1} → statement M

@@ -1,6 +1,7 @@
 -- `known_cases::figures::is_right` meets its contract: a wave or a probit, by the words at its place. Assumes nothing.
 use borrow.Author.Tests.{lt-ltb, le-ltb}
 use borrow.Author.Needs.{needs}
+use Rattle.known_cases.specs.Figures.{right}
 use Rattle.known_cases.proofs.figures.is_right.Statement.{statement}
 use Rattle.known_cases.proofs.figures.is_right.Tie as tie
 
@@ -26,6 +27,7 @@ is-wave-requires : tie.Need-is-wave-requires
 is-wave-requires c κs = search needs
 
 returns : tie.Need-returns
+unfolding right
 returns c = simp (lt-ltb (c .before .before .before .before .args .i) 2 (c .before .if1 .taken)) (cc)
 
 mul-two : tie.Need-mul-two
@@ -65,6 +67,7 @@ both-requires : tie.Need-both-requires
 both-requires c κs = search needs
 
 returns-2 : tie.Need-returns-2
+unfolding right
 returns-2 c =
     let k = c .before .before .before .before .before .before .before .before in
     simp (le-ltb (k .before .before .before .args .i) 2 (k .if1 .left)) (cc)

@@ -1,5 +1,6 @@
 -- `known_cases::figures::is_wave` meets its contract: both its tests are the definition's. Assumes nothing.
 use borrow.Author.Needs.{needs}
+use Rattle.known_cases.specs.Figures.{waveRight}
 use Rattle.known_cases.proofs.figures.is_wave.Statement.{statement}
 use Rattle.known_cases.proofs.figures.is_wave.Tie as tie
 
@@ -13,6 +14,7 @@ both-requires : tie.Need-both-requires
 both-requires c κs = search needs
 
 returns : tie.Need-returns
+unfolding waveRight
 returns c = cc
 
 pub is-wave-spec : {M : Type 1} → statement M

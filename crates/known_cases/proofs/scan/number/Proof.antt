@@ -2,7 +2,7 @@
 use Prim.Native.Nat.{_-_, _≤_}
 use lib.ListN.{length}
 use borrow.Author.Needs.{needs}
-use Rattle.known_cases.specs.Scan.{largest, shifted}
+use Rattle.known_cases.specs.Scan.{largest, shifted, spelled}
 use Rattle.known_cases.proofs.Folds.{Folded, fold-first, fold-again, fold-last}
 use Rattle.known_cases.proofs.scan.number.Statement.{statement}
 use Rattle.known_cases.proofs.scan.number.Tie as tie
@@ -34,6 +34,7 @@ loop-again c =
     (fold-again (c .before .before .before .loop .inv .0) (c .before .before .loop-test .taken) (e .0), e .1)
 
 returns : tie.Need-returns Inv-loop μ-loop
+unfolding spelled
 returns c = let i = c .before .loop .inv in (fold-last (i .0) (c .loop-test .left), i .1)
 
 pub number-spec : {M : Type 1} → statement M
