@@ -12,11 +12,11 @@ mod sums;
 // The byte that fills an area before its answer.
 const FILL: u8 = 170;
 
-// What a vector shows: 1 or 0 for an accepted case and for a frame that is answered as its line, how many tests failed.
+// What a vector shows: 1 or 0 for an accepted case, for a frame that is answered as its line, and for a test that failed.
 struct Finding {
     accepted: u64,
     alike: u64,
-    faults: u64,
+    faulty: u64,
 }
 
 // A line and its frame: 1 or 0 where they are answered alike, and where they are not. A line that spells no frame has two 0.
@@ -140,21 +140,42 @@ fn after_values(vector: &[u8], from: usize) -> usize
     at
 }
 
-// How many of the seven figures are wrong by the seven values that start at `from`.
-fn compare(vector: &[u8], from: usize, area: &[u8; 80], table: &[u64; 216]) -> u64
+// Whether the seven figures are right by the seven values that start at `from`.
+fn compare(vector: &[u8], from: usize, area: &[u8; 80], table: &[u64; 216]) -> bool
     requires { ⌜ from ≤ length (now vector) ⌝ }
 {
     let mut at = from;
     let mut i = 0;
-    let mut faults = 0;
     while i < 7 {
         let w = scan::next_word(vector, at);
-        let ok = figures::is_right(area, i, w.lead, w.value, table);
-        faults = scan::sum(faults, fault(ok));
+        if !figures::is_right(area, i, w.lead, w.value, table) {
+            return false;
+        }
         at = w.next;
         i += 1;
     }
-    faults
+    true
+}
+
+// Whether a case was accepted in its range, with no byte past the answer changed.
+fn is_accepted(area: &[u8; 80], refusal: u64, range: u64) -> bool {
+    if refusal != 0 {
+        return false;
+    }
+    if scan::wide(area[0]) != range {
+        return false;
+    }
+    is_kept(area, 77)
+}
+
+// A vector's finding from its tests and its line's and frame's.
+fn found_of(accepted: u64, right: bool, pair: Pair) -> Finding {
+    let ok = if right { pair.unlike == 0 } else { false };
+    Finding {
+        accepted,
+        alike: pair.alike,
+        faulty: fault(ok),
+    }
 }
 
 // A vector that is to be accepted: its values start at `from`, its line follows them.
@@ -170,16 +191,11 @@ fn judge_accepted(
     let at = after_values(vector, from);
     let mut area = [FILL; 80];
     let refusal = answer_to(&vector[at..], &mut area, room);
-    let wrong = compare(vector, from, &area, table);
-    let verdict = fault(refusal == 0);
-    let speed = fault(scan::wide(area[0]) == range);
-    let rest = fault(is_kept(&area, 77));
     let pair = compare_entries(&vector[at..], room);
-    Finding {
-        accepted: 1,
-        alike: pair.alike,
-        faults: scan::sum(scan::sum(wrong, pair.unlike), verdict + speed + rest),
+    if !is_accepted(&area, refusal, range) {
+        return found_of(1, false, pair);
     }
+    found_of(1, compare(vector, from, &area, table), pair)
 }
 
 // A vector that is to be refused: its line starts at `from`.
@@ -188,14 +204,11 @@ fn judge_refused(vector: &[u8], from: usize, room: usize, refusal: u64) -> Findi
 {
     let mut area = [FILL; 80];
     let found = answer_to(&vector[from..], &mut area, room);
-    let verdict = fault(found == refusal);
-    let rest = fault(is_kept(&area, 0));
     let pair = compare_entries(&vector[from..], room);
-    Finding {
-        accepted: 0,
-        alike: pair.alike,
-        faults: scan::sum(pair.unlike, verdict + rest),
+    if found != refusal {
+        return found_of(0, false, pair);
     }
+    found_of(0, is_kept(&area, 0), pair)
 }
 
 fn room_of(value: u64) -> usize
@@ -216,8 +229,8 @@ fn judge(vector: &[u8], table: &[u64; 216]) -> Finding {
 }
 
 // A vector with a fault is shown.
-fn show_fault(faults: u64, vector: &[u8]) {
-    if faults == 0 {
+fn show_fault(faulty: u64, vector: &[u8]) {
+    if faulty == 0 {
         return;
     }
     print(b"fault: ");
@@ -230,7 +243,7 @@ fn counted(t: Tally, f: Finding) -> Tally {
         accepted: scan::sum(t.accepted, f.accepted),
         refused: scan::sum(t.refused, fault(f.accepted == 1)),
         alike: scan::sum(t.alike, f.alike),
-        faulty: scan::sum(t.faulty, fault(f.faults == 0)),
+        faulty: scan::sum(t.faulty, f.faulty),
     }
 }
 
@@ -246,7 +259,7 @@ fn judge_all(text: &[u8], table: &[u64; 216]) -> Tally {
     while at < text.len() {
         let end = scan::line_end(text, at);
         let f = judge(&text[at..end], table);
-        show_fault(f.faults, &text[at..end]);
+        show_fault(f.faulty, &text[at..end]);
         t = counted(t, f);
         at = end + 1;
     }
@@ -266,12 +279,16 @@ fn print_sum(text: &[u8]) {
     print(b"\n");
 }
 
-fn report(name: &[u8], t: Tally) {
-    print(name);
-    print(b": ");
+fn print_verdicts(t: Tally) {
     print_count(scan::sum(t.accepted, t.refused), b" lines, ");
     print_count(t.accepted, b" accepted, ");
     print_count(t.refused, b" refused, ");
+}
+
+fn report(name: &[u8], t: Tally) {
+    print(name);
+    print(b": ");
+    print_verdicts(t);
     print_count(t.alike, b" answered alike from the frame, ");
     print_count(t.faulty, b" with a fault");
 }
@@ -342,6 +359,14 @@ fn print_damages(area: &[u8; 80]) {
     }
 }
 
+fn print_answer(area: &[u8; 80]) {
+    print(b"\n answered:");
+    print_intervals(area);
+    print(b"\n damage:");
+    print_damages(area);
+    print(b"\n");
+}
+
 // A printed example: 44 digits, a space, and what its paper prints.
 fn show(example: &[u8]) {
     if example.len() < 45 {
@@ -351,11 +376,7 @@ fn show(example: &[u8]) {
     let line = &example[0..44];
     answer_to(line, &mut area, 77);
     print(&example[45..]);
-    print(b"\n answered:");
-    print_intervals(&area);
-    print(b"\n damage:");
-    print_damages(&area);
-    print(b"\n");
+    print_answer(&area);
 }
 
 fn show_all(text: &[u8]) {
@@ -421,26 +442,31 @@ fn figures_near(text: &[u8]) -> Nearness {
     Nearness { lines, far }
 }
 
-fn show_near() {
-    let mut space = io::buffer();
-    let n = load(b"near", &mut space);
-    let found = figures_near(&space[..n]);
+fn print_nearness(found: Nearness) {
     print(b"near: ");
     print_count(found.lines, b" figures, ");
     print_count(found.far, b" with a fault");
+}
+
+fn show_near() {
+    let mut space = io::buffer();
+    let n = load(b"near", &mut space);
+    print_nearness(figures_near(&space[..n]));
     print_sum(&space[..n]);
+}
+
+// Whether Table 3 reads otherwise at a probit in thousandths.
+fn misread(probit: i64, tenths: u64) -> u64
+    ensures { λ r. ⌜ r ≤ 1 ⌝ }
+{
+    fault(guidance::damage_at(probit) == tenths)
 }
 
 // Table 3 around its ends.
 fn show_readings() {
-    let below = fault(guidance::damage_at(2669) == 0);
-    let first = fault(guidance::damage_at(2670) == 10);
-    let before = fault(guidance::damage_at(8089) == 998);
-    let last = fault(guidance::damage_at(8090) == 999);
-    print_count(
-        below + first + before + last,
-        b" of 4 readings of Table 3 with a fault\n",
-    );
+    let first = misread(2669, 0) + misread(2670, 10);
+    let last = misread(8089, 998) + misread(8090, 999);
+    print_count(first + last, b" of 4 readings of Table 3 with a fault\n");
 }
 
 fn is_refused_for_length(frame: &[u8]) -> bool {
@@ -475,26 +501,44 @@ fn table_of(text: &[u8]) -> [u64; 216] {
     table
 }
 
-fn main() {
-    show_near();
-    show_readings();
+fn show_lengths() {
     print_count(
         lengths_refused(),
         b" of 79 frames of other lengths refused for it\n",
     );
+}
+
+fn show_table() -> [u64; 216] {
     let mut space = io::buffer();
     let n = load(b"table", &mut space);
-    let table = table_of(&space[..n]);
     print(b"table: Table 3");
     print_sum(&space[..n]);
-    group(b"known", &table);
-    group(b"examples", &table);
-    group(b"substances", &table);
-    group(b"classes", &table);
-    group(b"branches", &table);
-    group(b"boundaries", &table);
-    group(b"extremes", &table);
-    group(b"refusals", &table);
-    group(b"random", &table);
+    table_of(&space[..n])
+}
+
+// Cases that the papers name, and those of every substance and class.
+fn named_groups(table: &[u64; 216]) {
+    group(b"known", table);
+    group(b"examples", table);
+    group(b"substances", table);
+    group(b"classes", table);
+}
+
+// Every way through the formulas, their limits, every refusal, and random cases.
+fn rule_groups(table: &[u64; 216]) {
+    group(b"branches", table);
+    group(b"boundaries", table);
+    group(b"extremes", table);
+    group(b"refusals", table);
+    group(b"random", table);
+}
+
+fn main() {
+    show_near();
+    show_readings();
+    show_lengths();
+    let table = show_table();
+    named_groups(&table);
+    rule_groups(&table);
     show_examples();
 }

@@ -6,10 +6,10 @@ use Rattle.known_cases.proofs.compare.Statement.{statement}
 use Rattle.known_cases.proofs.compare.Tie as tie
 
 abbrev Inv-loop : tie.InvT-loop
-Inv-loop vector from area table at₀ i₀ faults₀ at i faults = at ≤ length vector
+Inv-loop vector from area table at₀ i₀ at i = at ≤ length vector
 
 abbrev μ-loop : tie.MeasureT-loop
-μ-loop vector from area table at₀ i₀ faults₀ at i faults = 7 - i
+μ-loop vector from area table at₀ i₀ at i = 7 - i
 
 loop-holds : tie.Need-loop-holds Inv-loop μ-loop
 loop-holds c = search needs
@@ -20,11 +20,8 @@ next-word-requires c κs = search needs
 is-right-requires : tie.Need-is-right-requires Inv-loop μ-loop
 is-right-requires c κs = search needs
 
-fault-requires : tie.Need-fault-requires Inv-loop μ-loop
-fault-requires c κs = search needs
-
-sum-requires : tie.Need-sum-requires Inv-loop μ-loop
-sum-requires c κs = search needs
+returns : tie.Need-returns Inv-loop μ-loop
+returns c = search needs
 
 add-i : tie.Need-add-i Inv-loop μ-loop
 add-i c = search needs
@@ -35,8 +32,8 @@ loop-less c = search needs
 loop-again : tie.Need-loop-again Inv-loop μ-loop
 loop-again c = search needs
 
-returns : tie.Need-returns Inv-loop μ-loop
-returns c = search needs
+returns-2 : tie.Need-returns-2 Inv-loop μ-loop
+returns-2 c = search needs
 
 pub compare-spec : {M : Type 1} → statement M
 compare-spec =
@@ -47,9 +44,8 @@ compare-spec =
     loop-holds
     next-word-requires
     is-right-requires
-    fault-requires
-    sum-requires
+    returns
     add-i
     loop-less
     loop-again
-    returns)
+    returns-2)
