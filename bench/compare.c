@@ -106,50 +106,61 @@ static ssize_t next_line(FILE *file, char **text, size_t *room)
     return length > 0 && (*text)[length - 1] == '\n' ? length - 1 : length;
 }
 
-int main(int count, char **words)
+/* reckon's answer against the peer's. */
+static void hold_answers(const struct record *ours, const struct record *theirs, int inside)
 {
     static const char *const names[PROBITS] = { "Pr1", "Pr2", "Pr3", "Pr4", "Pr5" };
+    rules(ours);
+    hold(ours->f.pressure, theirs->f.pressure, inside, "pressure");
+    hold(ours->f.impulse, theirs->f.impulse, inside, "impulse");
+    for (int i = 0; i < PROBITS; i++)
+        hold(ours->f.probit[i], theirs->f.probit[i], inside, names[i]);
+}
+
+/* A line and its two records; gives the line's refusal, 0 for none. */
+static int hold_line(char *const text[3], const ssize_t length[3], int inside)
+{
+    struct record ours, theirs;
+    struct cloud c;
+    int refusal = decide_line((const uint8_t *)text[0], (size_t)length[0], &c);
+    if (!parse(text[1], (size_t)length[1], &ours) || !parse(text[2], (size_t)length[2], &theirs))
+        fault("a record has another form");
+    else if (ours.refusal != refusal || theirs.refusal != refusal)
+        fault("the verdicts differ");
+    else if (refusal == 0) {
+        if (ours.range != c.range || theirs.range != c.range)
+            fault("the speed ranges differ");
+        hold_answers(&ours, &theirs, inside);
+    }
+    return refusal;
+}
+
+/* The next line of each file; 0 at their end. */
+static int next_lines(FILE *const file[3], char *text[3], size_t room[3], ssize_t length[3])
+{
+    int left = 0;
+    for (int i = 0; i < 3; i++)
+        left += (length[i] = next_line(file[i], &text[i], &room[i])) >= 0;
+    if (left > 0)
+        number++;
+    if (left == 1 || left == 2)
+        fault("the three files have different counts of lines");
+    return left == 3;
+}
+
+int main(int count, char **words)
+{
     if (count != 5 || (strcmp(words[4], "meet") && strcmp(words[4], "inside")))
         return fprintf(stderr, "compare LINES RECKON PEER meet|inside\n"), 2;
-    int inside = strcmp(words[4], "inside") == 0;
     FILE *file[3];
     char *text[3] = { 0 };
     size_t room[3] = { 0 };
+    ssize_t length[3];
     uint64_t verdicts[9] = { 0 };
     for (int i = 0; i < 3; i++)
         file[i] = open_or_end(words[1 + i]);
-    for (;;) {
-        ssize_t length[3];
-        struct record ours, theirs;
-        struct cloud c;
-        for (int i = 0; i < 3; i++)
-            length[i] = next_line(file[i], &text[i], &room[i]);
-        if (length[0] < 0 || length[1] < 0 || length[2] < 0) {
-            if (length[0] >= 0 || length[1] >= 0 || length[2] >= 0)
-                number++, fault("the three files have different counts of lines");
-            break;
-        }
-        number++;
-        int refusal = decide_line((const uint8_t *)text[0], (size_t)length[0], &c);
-        verdicts[refusal]++;
-        if (!parse(text[1], (size_t)length[1], &ours) || !parse(text[2], (size_t)length[2], &theirs)) {
-            fault("a record has another form");
-            continue;
-        }
-        if (ours.refusal != refusal || theirs.refusal != refusal) {
-            fault("the verdicts differ");
-            continue;
-        }
-        if (refusal > 0)
-            continue;
-        if (ours.range != c.range || theirs.range != c.range)
-            fault("the speed ranges differ");
-        rules(&ours);
-        hold(ours.f.pressure, theirs.f.pressure, inside, "pressure");
-        hold(ours.f.impulse, theirs.f.impulse, inside, "impulse");
-        for (int i = 0; i < PROBITS; i++)
-            hold(ours.f.probit[i], theirs.f.probit[i], inside, names[i]);
-    }
+    while (next_lines(file, text, room, length))
+        verdicts[hold_line(text, length, strcmp(words[4], "inside") == 0)]++;
     printf("%llu lines, %llu accepted, refused", (unsigned long long)number, (unsigned long long)verdicts[0]);
     for (int i = 1; i < 8; i++)
         printf(" %d:%llu", i, (unsigned long long)verdicts[i]);

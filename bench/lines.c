@@ -110,62 +110,81 @@ static size_t spell_out(const uint8_t frame[FRAME], int lower, char *line)
     return LINE;
 }
 
-/* One way to damage a line, or to make its case one that is refused. */
-static size_t harm(uint8_t frame[FRAME], char *line)
+/* One of four ways to damage the line itself, `at` the place. */
+static size_t harm_line(uint32_t way, size_t at, char *line)
 {
     static const char strange[] = "gG @/:`{\r\xff\x80\xe1\x01";
-    size_t at = below(LINE), length;
-    switch (below(10)) {
+    switch (way) {
     case 0: /* a character lost, or the line cut */
-        length = spell_out(frame, 0, line);
         if (below(2))
             return at;
-        memmove(line + at, line + at + 1, length - at - 1);
-        return length - 1;
+        memmove(line + at, line + at + 1, LINE - at - 1);
+        return LINE - 1;
     case 1: /* a character too many, or hundreds */
-        length = spell_out(frame, 0, line);
         if (below(2)) {
-            memmove(line + at + 1, line + at, length - at);
-            return length + 1;
+            memmove(line + at + 1, line + at, LINE - at);
+            return LINE + 1;
         }
-        memset(line + length, '0', 300);
-        return length + 1 + below(299);
+        memset(line + LINE, '0', 300);
+        return LINE + 1 + below(299);
     case 2: /* no digit */
-        length = spell_out(frame, 0, line);
         line[at] = strange[below(sizeof strange - 1)];
-        return length;
-    case 3: /* any bytes but LF */
+        return LINE;
+    default: /* any bytes but LF */
         for (size_t i = 0; i < LINE; i++)
             while ((line[i] = (char)below(256)) == '\n')
                 ;
         return LINE;
-    case 4:
+    }
+}
+
+/* A quantity at or past its end, or 0. */
+static void harm_quantity(uint8_t frame[FRAME])
+{
+    static const struct { int at, size; uint32_t most; } field[] = {
+        { 4, 4, 1000000000 }, { 8, 2, 50000 }, { 10, 2, 50000 }, { 12, 4, 150000 }, { 16, 4, 1000000 }, { 20, 2, 500 } };
+    int n = (int)below(6);
+    put(frame + field[n].at, below(3) ? field[n].most + below(3) : 0, field[n].size);
+}
+
+/* One of six ways to make the case one that is refused, or just not. */
+static void harm_case(uint32_t way, uint8_t frame[FRAME])
+{
+    struct cloud c;
+    switch (way) {
+    case 0:
         frame[0] = (uint8_t)(74 + below(182));
         break;
-    case 5:
+    case 1:
         frame[1 + below(3)] = (uint8_t)below(7);
         break;
-    case 6: { /* a quantity at or past its end */
-        static const struct { int at, size; uint32_t most; } field[] = {
-            { 4, 4, 1000000000 }, { 8, 2, 50000 }, { 10, 2, 50000 }, { 12, 4, 150000 }, { 16, 4, 1000000 }, { 20, 2, 500 } };
-        int n = (int)below(6);
-        put(frame + field[n].at, below(3) ? field[n].most + below(3) : 0, field[n].size);
+    case 2:
+        harm_quantity(frame);
         break;
-    }
-    case 7: /* heat missing */
+    case 3: /* heat missing */
         put(frame + 12, 0, 4);
         frame[0] = (uint8_t[]){ 0, 25, 47, 46 }[below(4)];
         break;
-    case 8: { /* beyond, or just not */
-        struct cloud c;
+    case 4: /* beyond, or just not */
         decide_frame(frame, &c);
         put(frame + 16, within(distance_at(&c, below(2) ? 24 : 24 + 40 * unit()) + below(4), 1, 1000000), 4);
         break;
-    }
     default: /* bytes anew, so that several tests apply at once */
         for (int i = 0; i < 3; i++)
             frame[below(FRAME)] = (uint8_t)below(256);
     }
+}
+
+/* One way to damage a line, or to make its case one that is refused. */
+static size_t harm(uint8_t frame[FRAME], char *line)
+{
+    size_t at = below(LINE);
+    uint32_t way = below(10);
+    if (way < 4) {
+        spell_out(frame, 0, line);
+        return harm_line(way, at, line);
+    }
+    harm_case(way - 4, frame);
     return spell_out(frame, 0, line);
 }
 

@@ -214,11 +214,47 @@ static int put_record(const uint8_t *line, size_t length, worker *work)
     return 1;
 }
 
+/* A line that a read cut: the start of it, of which a 45th character shows that it is too long. */
+static uint8_t held[LINE + 1];
+static size_t held_length;
+static int open_line;
+
+static void hold(const uint8_t *at, size_t part)
+{
+    size_t room = sizeof held - held_length, take = part < room ? part : room;
+    memcpy(held + held_length, at, take);
+    held_length += take;
+    open_line = 1;
+}
+
+static int put_held(worker *work)
+{
+    size_t length = held_length;
+    held_length = 0;
+    open_line = 0;
+    return put_record(held, length, work);
+}
+
+/* The records of the lines that end within a part of the input. */
+static int feed(const uint8_t *at, const uint8_t *end, worker *work)
+{
+    while (at < end) {
+        const uint8_t *lf = memchr(at, '\n', (size_t)(end - at)), *stop = lf ? lf : end;
+        if (lf && !open_line) {
+            if (!put_record(at, (size_t)(stop - at), work))
+                return 0;
+        } else {
+            hold(at, (size_t)(stop - at));
+            if (lf && !put_held(work))
+                return 0;
+        }
+        at = lf ? lf + 1 : end;
+    }
+    return 1;
+}
+
 int serve(worker *work)
 {
-    uint8_t held[LINE + 1]; /* the start of a line that a read cut; a 45th character shows that it is too long */
-    size_t length = 0;
-    int open = 0;
     for (int b = 0; b < 256; b++)
         memcpy(pairs[b], (uint8_t[2]){ "0123456789ABCDEF"[b >> 4], "0123456789ABCDEF"[b & 15] }, 2);
     for (;;) {
@@ -229,29 +265,10 @@ int serve(worker *work)
             return 1;
         if (got == 0)
             break;
-        const uint8_t *at = in, *end = in + got;
-        while (at < end) {
-            const uint8_t *feed = memchr(at, '\n', (size_t)(end - at)), *stop = feed ? feed : end;
-            size_t part = (size_t)(stop - at);
-            if (feed && !open) {
-                if (!put_record(at, part, work))
-                    return 1;
-            } else {
-                size_t room = sizeof held - length, take = part < room ? part : room;
-                memcpy(held + length, at, take);
-                length += take;
-                open = 1;
-                if (feed) {
-                    if (!put_record(held, length, work))
-                        return 1;
-                    length = 0;
-                    open = 0;
-                }
-            }
-            at = feed ? feed + 1 : end;
-        }
+        if (!feed(in, in + got, work))
+            return 1;
     }
-    if (open && !put_record(held, length, work))
+    if (open_line && !put_held(work))
         return 1;
     return !flush();
 }
