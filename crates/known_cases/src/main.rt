@@ -19,8 +19,9 @@ struct Finding {
     faulty: u64,
 }
 
-// A line and its frame: 1 or 0 where they are answered alike, and where they are not. A line that spells no frame has two 0.
-struct Pair {
+// A line's verdict as a number, and 1 or 0 where its frame is answered alike, and where it is not. A line that spells no frame has two 0.
+struct Answers {
+    refusal: u64,
     alike: u64,
     unlike: u64,
 }
@@ -81,48 +82,57 @@ fn fault(ok: bool) -> u64
     if ok { 0 } else { 1 }
 }
 
-// Whether a line and its frame get the same verdict, and the same bytes in an area each.
-fn is_alike(line: &[u8], frame: &[u8; 22], room: usize) -> bool
+// Whether a frame gets its line's verdict, and in an area of its own the line's bytes.
+fn is_alike(frame: &[u8; 22], room: usize, refusal: u64, area: &[u8; 80]) -> bool
     requires { ⌜ room ≤ 80 ⌝ }
 {
-    let mut first = [FILL; 80];
-    let mut second = [FILL; 80];
-    let by_line = answer_to(line, &mut first, room);
-    let by_frame = answer_to_frame(frame, &mut second, room);
-    if by_line != by_frame {
+    let mut other = [FILL; 80];
+    if answer_to_frame(frame, &mut other, room) != refusal {
         return false;
     }
-    check::same(&first, &second)
+    check::same(area, &other)
 }
 
-// A line, and the frame that it spells if it is one of 44 digits.
-fn compare_entries(line: &[u8], room: usize) -> Pair
+// The frame that the line spells, if it is one of 44 digits, against the line's verdict and area.
+fn held_to_frame(line: &[u8], room: usize, refusal: u64, area: &[u8; 80]) -> Answers
     requires { ⌜ room ≤ 80 ⌝ }
 {
     let mut frame = [0u8; 22];
     if line.len() != 44 {
-        return Pair {
+        return Answers {
+            refusal,
             alike: 0,
             unlike: 0,
         };
     }
     if !frames::spell(line, &mut frame) {
-        return Pair {
+        return Answers {
+            refusal,
             alike: 0,
             unlike: 0,
         };
     }
-    if is_alike(line, &frame, room) {
-        Pair {
+    if is_alike(&frame, room, refusal, area) {
+        Answers {
+            refusal,
             alike: 1,
             unlike: 0,
         }
     } else {
-        Pair {
+        Answers {
+            refusal,
             alike: 0,
             unlike: 1,
         }
     }
+}
+
+// The line's answer into the area, and its frame's beside it.
+fn answers_to(line: &[u8], area: &mut [u8; 80], room: usize) -> Answers
+    requires { ⌜ room ≤ 80 ⌝ }
+{
+    let refusal = answer_to(line, area, room);
+    held_to_frame(line, room, refusal, area)
 }
 
 // The place after the seven values that start at `from`.
@@ -168,12 +178,12 @@ fn is_accepted(area: &[u8; 80], refusal: u64, range: u64) -> bool {
     is_kept(area, 77)
 }
 
-// A vector's finding from its tests and its line's and frame's.
-fn found_of(accepted: u64, right: bool, pair: Pair) -> Finding {
-    let ok = if right { pair.unlike == 0 } else { false };
+// A vector's finding from its tests and its line's and frame's answers.
+fn found_of(accepted: u64, right: bool, answers: Answers) -> Finding {
+    let ok = if right { answers.unlike == 0 } else { false };
     Finding {
         accepted,
-        alike: pair.alike,
+        alike: answers.alike,
         faulty: fault(ok),
     }
 }
@@ -190,12 +200,11 @@ fn judge_accepted(
 {
     let at = after_values(vector, from);
     let mut area = [FILL; 80];
-    let refusal = answer_to(&vector[at..], &mut area, room);
-    let pair = compare_entries(&vector[at..], room);
-    if !is_accepted(&area, refusal, range) {
-        return found_of(1, false, pair);
+    let answers = answers_to(&vector[at..], &mut area, room);
+    if !is_accepted(&area, answers.refusal, range) {
+        return found_of(1, false, answers);
     }
-    found_of(1, compare(vector, from, &area, table), pair)
+    found_of(1, compare(vector, from, &area, table), answers)
 }
 
 // A vector that is to be refused: its line starts at `from`.
@@ -203,12 +212,11 @@ fn judge_refused(vector: &[u8], from: usize, room: usize, refusal: u64) -> Findi
     requires { ⌜ (from ≤ length (now vector)) × (room ≤ 80) ⌝ }
 {
     let mut area = [FILL; 80];
-    let found = answer_to(&vector[from..], &mut area, room);
-    let pair = compare_entries(&vector[from..], room);
-    if found != refusal {
-        return found_of(0, false, pair);
+    let answers = answers_to(&vector[from..], &mut area, room);
+    if answers.refusal != refusal {
+        return found_of(0, false, answers);
     }
-    found_of(0, is_kept(&area, 0), pair)
+    found_of(0, is_kept(&area, 0), answers)
 }
 
 fn room_of(value: u64) -> usize
@@ -323,13 +331,19 @@ fn print_signed(w: u64)
     print_number(4294967296 - w);
 }
 
+fn print_ends(lower: u64, upper: u64)
+    requires { ⌜ (lower < 4294967296) × (upper < 4294967296) ⌝ }
+{
+    print(b" ");
+    print_signed(lower);
+    print(b"..");
+    print_signed(upper);
+}
+
 fn print_interval(area: &[u8; 80], at: usize)
     requires { ⌜ at + 7 < 80 ⌝ }
 {
-    print(b" ");
-    print_signed(figures::four(area, at));
-    print(b"..");
-    print_signed(figures::four(area, at + 4));
+    print_ends(figures::four(area, at), figures::four(area, at + 4));
 }
 
 // The seven intervals of an answer: pressure, impulse, and the five probits in thousandths.
@@ -344,10 +358,7 @@ fn print_intervals(area: &[u8; 80]) {
 fn print_damage(area: &[u8; 80], at: usize)
     requires { ⌜ at + 3 < 80 ⌝ }
 {
-    print(b" ");
-    print_number(figures::two(area, at));
-    print(b"..");
-    print_number(figures::two(area, at + 2));
+    print_ends(figures::two(area, at), figures::two(area, at + 2));
 }
 
 // The five pairs of damages, in tenths of a percent.
@@ -516,21 +527,14 @@ fn show_table() -> [u64; 216] {
     table_of(&space[..n])
 }
 
-// Cases that the papers name, and those of every substance and class.
-fn named_groups(table: &[u64; 216]) {
-    group(b"known", table);
-    group(b"examples", table);
-    group(b"substances", table);
-    group(b"classes", table);
-}
-
-// Every way through the formulas, their limits, every refusal, and random cases.
-fn rule_groups(table: &[u64; 216]) {
-    group(b"branches", table);
-    group(b"boundaries", table);
-    group(b"extremes", table);
-    group(b"refusals", table);
-    group(b"random", table);
+// The groups whose names stand in a text, a line each.
+fn groups(names: &[u8], table: &[u64; 216]) {
+    let mut at = 0;
+    while at < names.len() {
+        let end = scan::line_end(names, at);
+        group(&names[at..end], table);
+        at = end + 1;
+    }
 }
 
 fn main() {
@@ -538,7 +542,9 @@ fn main() {
     show_readings();
     show_lengths();
     let table = show_table();
-    named_groups(&table);
-    rule_groups(&table);
+    groups(
+        b"known\nexamples\nsubstances\nclasses\nbranches\nboundaries\nextremes\nrefusals\nrandom",
+        &table,
+    );
     show_examples();
 }
