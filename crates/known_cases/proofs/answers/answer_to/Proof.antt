@@ -1,9 +1,9 @@
--- `known_cases::answer_to` lends no more than the area has. Assumes nothing.
+-- `known_cases::answers::answer_to` lends no more than the area has. Assumes nothing.
 use mathlib.Core.Path.{sym}
 use lib.Seq.{length-take-le}
 use borrow.Author.Needs.{needs}
-use Rattle.known_cases.proofs.answer_to.Statement.{statement}
-use Rattle.known_cases.proofs.answer_to.Tie as tie
+use Rattle.known_cases.proofs.answers.answer_to.Statement.{statement}
+use Rattle.known_cases.proofs.answers.answer_to.Tie as tie
 
 slice-relend-prefix-from-line : tie.Need-slice-relend-prefix-from-line
 slice-relend-prefix-from-line c = search needs

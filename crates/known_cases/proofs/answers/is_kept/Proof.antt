@@ -1,8 +1,8 @@
--- `known_cases::is_kept` is safe and ends: what is left of the area falls. Assumes nothing.
+-- `known_cases::answers::is_kept` is safe and ends: what is left of the area falls. Assumes nothing.
 use Prim.Native.Nat.{_-_}
 use borrow.Author.Needs.{needs}
-use Rattle.known_cases.proofs.is_kept.Statement.{statement}
-use Rattle.known_cases.proofs.is_kept.Tie as tie
+use Rattle.known_cases.proofs.answers.is_kept.Statement.{statement}
+use Rattle.known_cases.proofs.answers.is_kept.Tie as tie
 
 abbrev Inv-loop : tie.InvT-loop
 Inv-loop area from at₀ at = Unit {0}

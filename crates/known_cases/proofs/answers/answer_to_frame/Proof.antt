@@ -1,9 +1,9 @@
--- `known_cases::answer_to_frame` lends no more than the area has. Assumes nothing.
+-- `known_cases::answers::answer_to_frame` lends no more than the area has. Assumes nothing.
 use mathlib.Core.Path.{sym}
 use lib.Seq.{length-take-le}
 use borrow.Author.Needs.{needs}
-use Rattle.known_cases.proofs.answer_to_frame.Statement.{statement}
-use Rattle.known_cases.proofs.answer_to_frame.Tie as tie
+use Rattle.known_cases.proofs.answers.answer_to_frame.Statement.{statement}
+use Rattle.known_cases.proofs.answers.answer_to_frame.Tie as tie
 
 slice-relend-prefix-from-frame : tie.Need-slice-relend-prefix-from-frame
 slice-relend-prefix-from-frame c = search needs

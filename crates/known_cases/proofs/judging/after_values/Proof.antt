@@ -1,9 +1,9 @@
--- `known_cases::after_values` stays within the vector, for seven turns. Assumes nothing.
+-- `known_cases::judging::after_values` stays within the vector, for seven turns. Assumes nothing.
 use Prim.Native.Nat.{_≤_, _-_}
 use lib.ListN.{length}
 use borrow.Author.Needs.{needs}
-use Rattle.known_cases.proofs.after_values.Statement.{statement}
-use Rattle.known_cases.proofs.after_values.Tie as tie
+use Rattle.known_cases.proofs.judging.after_values.Statement.{statement}
+use Rattle.known_cases.proofs.judging.after_values.Tie as tie
 
 abbrev Inv-loop : tie.InvT-loop
 Inv-loop vector from at₀ i₀ at i = at ≤ length vector

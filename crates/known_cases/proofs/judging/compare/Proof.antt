@@ -1,9 +1,9 @@
--- `known_cases::compare` stays within the vector, for seven turns. Assumes nothing.
+-- `known_cases::judging::compare` stays within the vector, for seven turns. Assumes nothing.
 use Prim.Native.Nat.{_≤_, _-_}
 use lib.ListN.{length}
 use borrow.Author.Needs.{needs}
-use Rattle.known_cases.proofs.compare.Statement.{statement}
-use Rattle.known_cases.proofs.compare.Tie as tie
+use Rattle.known_cases.proofs.judging.compare.Statement.{statement}
+use Rattle.known_cases.proofs.judging.compare.Tie as tie
 
 abbrev Inv-loop : tie.InvT-loop
 Inv-loop vector from area table at₀ i₀ at i = at ≤ length vector

@@ -1,8 +1,8 @@
--- `known_cases::print_intervals` is safe and ends after seven turns. Assumes nothing.
+-- `known_cases::printing::print_intervals` is safe and ends after seven turns. Assumes nothing.
 use Prim.Native.Nat.{_-_}
 use borrow.Author.Needs.{needs}
-use Rattle.known_cases.proofs.print_intervals.Statement.{statement}
-use Rattle.known_cases.proofs.print_intervals.Tie as tie
+use Rattle.known_cases.proofs.printing.print_intervals.Statement.{statement}
+use Rattle.known_cases.proofs.printing.print_intervals.Tie as tie
 
 abbrev Inv-loop : tie.InvT-loop
 Inv-loop area i₀ i = Unit {0}

@@ -1,9 +1,9 @@
--- `known_cases::judge_all` is safe; what is left of the text falls with each line. Assumes nothing.
+-- `known_cases::judging::judge_all` is safe; what is left of the text falls with each line. Assumes nothing.
 use Prim.Native.Nat.{_-_}
 use lib.ListN.{length}
 use borrow.Author.Needs.{needs}
-use Rattle.known_cases.proofs.judge_all.Statement.{statement}
-use Rattle.known_cases.proofs.judge_all.Tie as tie
+use Rattle.known_cases.proofs.judging.judge_all.Statement.{statement}
+use Rattle.known_cases.proofs.judging.judge_all.Tie as tie
 
 abbrev Inv-loop : tie.InvT-loop
 Inv-loop text table t₀ at₀ t at = Unit {0}
