@@ -1,7 +1,6 @@
 // A line's answer, and that of the frame that it spells.
 ghost use Prim.Native.Nat.{_≤_};
 ghost use lib.ListN.{length};
-use crate::frames;
 use frame::Verdict;
 
 // The byte that fills an area before its answer.
@@ -77,7 +76,7 @@ fn held_to_frame(line: &[u8], room: usize, refusal: u64, area: &[u8; 80]) -> Ans
             unlike: 0,
         };
     }
-    if !frames::spell(line, &mut frame) {
+    if !vectors::frames::spell(line, &mut frame) {
         return Answers {
             refusal,
             alike: 0,

@@ -3,9 +3,7 @@ ghost use Prim.Native.Nat.{_≤_};
 ghost use lib.ListN.{length};
 use crate::answers;
 use crate::answers::Answers;
-use crate::figures;
 use crate::printing;
-use crate::scan;
 
 // What a vector shows: 1 or 0 for an accepted case, for a frame that is answered as its line, and for a test that failed.
 struct Finding {
@@ -30,7 +28,7 @@ fn after_values(vector: &[u8], from: usize) -> usize
     let mut at = from;
     let mut i: usize = 0;
     while i < 7 {
-        let w = scan::next_word(vector, at);
+        let w = vectors::scan::next_word(vector, at);
         at = w.next;
         i += 1;
     }
@@ -44,8 +42,8 @@ fn compare(vector: &[u8], from: usize, area: &[u8; 80], table: &[u64; 216]) -> b
     let mut at = from;
     let mut i = 0;
     while i < 7 {
-        let w = scan::next_word(vector, at);
-        if !figures::is_right(area, i, w.lead, w.value, table) {
+        let w = vectors::scan::next_word(vector, at);
+        if !vectors::figures::is_right(area, i, w.lead, w.value, table) {
             return false;
         }
         at = w.next;
@@ -59,7 +57,7 @@ fn is_accepted(area: &[u8; 80], refusal: u64, range: u64) -> bool {
     if refusal != 0 {
         return false;
     }
-    if scan::wide(area[0]) != range {
+    if vectors::scan::wide(area[0]) != range {
         return false;
     }
     answers::is_kept(area, 77)
@@ -114,8 +112,8 @@ fn room_of(value: u64) -> usize
 
 // A vector: the room, A with the range or R with the refusal, the values, the line.
 fn judge(vector: &[u8], table: &[u64; 216]) -> Finding {
-    let first = scan::next_word(vector, 0);
-    let verdict = scan::next_word(vector, first.next);
+    let first = vectors::scan::next_word(vector, 0);
+    let verdict = vectors::scan::next_word(vector, first.next);
     let room = room_of(first.value);
     if verdict.lead == b'A' {
         return judge_accepted(vector, verdict.next, room, verdict.value, table);
@@ -135,10 +133,10 @@ fn show_fault(faulty: u64, vector: &[u8]) {
 
 fn counted(t: Tally, f: Finding) -> Tally {
     Tally {
-        accepted: scan::sum(t.accepted, f.accepted),
-        refused: scan::sum(t.refused, answers::fault(f.accepted == 1)),
-        alike: scan::sum(t.alike, f.alike),
-        faulty: scan::sum(t.faulty, f.faulty),
+        accepted: vectors::scan::sum(t.accepted, f.accepted),
+        refused: vectors::scan::sum(t.refused, answers::fault(f.accepted == 1)),
+        alike: vectors::scan::sum(t.alike, f.alike),
+        faulty: vectors::scan::sum(t.faulty, f.faulty),
     }
 }
 
@@ -152,7 +150,7 @@ pub(crate) fn judge_all(text: &[u8], table: &[u64; 216]) -> Tally {
     };
     let mut at = 0;
     while at < text.len() {
-        let end = scan::line_end(text, at);
+        let end = vectors::scan::line_end(text, at);
         let f = judge(&text[at..end], table);
         show_fault(f.faulty, &text[at..end]);
         t = counted(t, f);

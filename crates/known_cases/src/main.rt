@@ -4,22 +4,18 @@ ghost use Rattle.io.specs.Counts.{Counts};
 use crate::judging::Tally;
 
 mod answers;
-mod figures;
-mod frames;
 mod judging;
 mod printing;
-mod scan;
-mod sums;
 
 // The number of a file's bytes, which any one byte changes.
 fn print_sum(text: &[u8]) {
     printing::print(b"; sum of its bytes ");
-    printing::print_number(sums::sum_of(text));
+    printing::print_number(vectors::sums::sum_of(text));
     printing::print(b"\n");
 }
 
 fn print_verdicts(t: Tally) {
-    printing::print_count(scan::sum(t.accepted, t.refused), b" lines, ");
+    printing::print_count(vectors::scan::sum(t.accepted, t.refused), b" lines, ");
     printing::print_count(t.accepted, b" accepted, ");
     printing::print_count(t.refused, b" refused, ");
 }
@@ -65,7 +61,7 @@ fn show(example: &[u8]) {
 fn show_all(text: &[u8]) {
     let mut at = 0;
     while at < text.len() {
-        let end = scan::line_end(text, at);
+        let end = vectors::scan::line_end(text, at);
         show(&text[at..end]);
         at = end + 1;
     }
@@ -88,17 +84,17 @@ fn is_within(line: &[u8], at: usize, least: u64, most: u64) -> bool
     if refusal != 0 {
         return false;
     }
-    if figures::four(&area, at) < least {
+    if vectors::figures::four(&area, at) < least {
         return false;
     }
-    figures::four(&area, at + 4) <= most
+    vectors::figures::four(&area, at + 4) <= most
 }
 
 // A figure that document 01 calls near: the interval's place in the answer, two numbers around the figure, the line.
 fn is_near(near: &[u8]) -> bool {
-    let at = scan::next_word(near, 0);
-    let least = scan::next_word(near, at.next);
-    let most = scan::next_word(near, least.next);
+    let at = vectors::scan::next_word(near, 0);
+    let least = vectors::scan::next_word(near, at.next);
+    let most = vectors::scan::next_word(near, least.next);
     if 72 < at.value {
         return false;
     }
@@ -117,9 +113,9 @@ fn figures_near(text: &[u8]) -> Nearness {
     let mut far = 0;
     let mut at = 0;
     while at < text.len() {
-        let end = scan::line_end(text, at);
-        lines = scan::sum(lines, 1);
-        far = scan::sum(far, answers::fault(is_near(&text[at..end])));
+        let end = vectors::scan::line_end(text, at);
+        lines = vectors::scan::sum(lines, 1);
+        far = vectors::scan::sum(far, answers::fault(is_near(&text[at..end])));
         at = end + 1;
     }
     Nearness { lines, far }
@@ -164,7 +160,7 @@ fn lengths_refused() -> u64 {
     let mut n = 0;
     while n < 80 {
         let other = is_refused_for_length(&frame[..n]);
-        refused = scan::sum(refused, answers::fault(!other));
+        refused = vectors::scan::sum(refused, answers::fault(!other));
         n += 1;
     }
     refused
@@ -176,7 +172,7 @@ fn table_of(text: &[u8]) -> [u64; 216] {
     let mut at = 0;
     let mut i: usize = 0;
     while i < 216 {
-        let w = scan::next_word(text, at);
+        let w = vectors::scan::next_word(text, at);
         table[i] = w.value;
         at = w.next;
         i += 1;
@@ -203,7 +199,7 @@ fn show_table() -> [u64; 216] {
 fn groups(names: &[u8], table: &[u64; 216]) {
     let mut at = 0;
     while at < names.len() {
-        let end = scan::line_end(names, at);
+        let end = vectors::scan::line_end(names, at);
         group(&names[at..end], table);
         at = end + 1;
     }

@@ -1,6 +1,5 @@
 // What the program prints: numbers, the ends of intervals, damages, a whole answer.
 ghost use Prim.Native.Nat.{_+_, _<_};
-use crate::figures;
 
 pub(crate) fn print(text: &[u8]) {
     io::write_all(libc::STDOUT_FILENO, text);
@@ -40,7 +39,10 @@ fn print_ends(lower: u64, upper: u64)
 fn print_interval(area: &[u8; 80], at: usize)
     requires { ⌜ at + 7 < 80 ⌝ }
 {
-    print_ends(figures::four(area, at), figures::four(area, at + 4));
+    print_ends(
+        vectors::figures::four(area, at),
+        vectors::figures::four(area, at + 4),
+    );
 }
 
 // The seven intervals of an answer: pressure, impulse, and the five probits in thousandths.
@@ -55,7 +57,10 @@ fn print_intervals(area: &[u8; 80]) {
 fn print_damage(area: &[u8; 80], at: usize)
     requires { ⌜ at + 3 < 80 ⌝ }
 {
-    print_ends(figures::two(area, at), figures::two(area, at + 2));
+    print_ends(
+        vectors::figures::two(area, at),
+        vectors::figures::two(area, at + 2),
+    );
 }
 
 // The five pairs of damages, in tenths of a percent.
