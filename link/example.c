@@ -1,4 +1,4 @@
-/* Calls Yakepuhi from C: a case as a line and as a frame's bytes, its overpressure alone, a wrong line and an area that is too short, each printed in readable form. */
+/* Calls Yakepuhi from C: a case as a line and as a frame's bytes, its overpressure and its impulse alone, a wrong line and an area that is too short, each printed in readable form. */
 #include "yakepuhi.h"
 
 #include <inttypes.h>
@@ -68,6 +68,8 @@ int main(void)
     ask_frame("the same from its bytes", frame, sizeof frame);
     uint64_t refusal = yakepuhi_overpressure(frame, sizeof frame, &lower, &upper);
     printf("its overpressure alone: %s\n  %" PRIu64 " to %" PRIu64 " Pa\n", words[refusal], lower, upper);
+    refusal = yakepuhi_impulse(frame, sizeof frame, &lower, &upper);
+    printf("its impulse alone: %s\n  %" PRIu64 " to %" PRIu64 " Pa s\n", words[refusal], lower, upper);
     ask("a wrong line", "11000104007A1200057803020000B54000002710004G", YAKEPUHI_ANSWER);
     ask("a short area", line, YAKEPUHI_ANSWER - 1);
     return 0;

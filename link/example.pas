@@ -1,4 +1,4 @@
-{ Calls Yakepuhi from Free Pascal: a case as a line and as a frame's bytes, its overpressure alone, a wrong line and an area that is too short, each printed in readable form. }
+{ Calls Yakepuhi from Free Pascal: a case as a line and as a frame's bytes, its overpressure and its impulse alone, a wrong line and an area that is too short, each printed in readable form. }
 program example;
 
 {$mode objfpc}{$H+}
@@ -20,6 +20,7 @@ type
 function yakepuhi_from_line(line: PByte; lineLength: SizeUInt; area: PByte; areaLength: SizeUInt): QWord; cdecl; external;
 function yakepuhi_from_frame(frame: PByte; frameLength: SizeUInt; area: PByte; areaLength: SizeUInt): QWord; cdecl; external;
 function yakepuhi_overpressure(frame: PByte; frameLength: SizeUInt; lower, upper: PQWord): QWord; cdecl; external;
+function yakepuhi_impulse(frame: PByte; frameLength: SizeUInt; lower, upper: PQWord): QWord; cdecl; external;
 
 function Two(const a: TArea; at: Integer): LongWord;
 begin
@@ -107,6 +108,9 @@ begin
   refusal := yakepuhi_overpressure(@Frame[0], SizeOf(Frame), @lower, @upper);
   WriteLn('its overpressure alone: ', Words[refusal]);
   WriteLn('  ', lower, ' to ', upper, ' Pa');
+  refusal := yakepuhi_impulse(@Frame[0], SizeOf(Frame), @lower, @upper);
+  WriteLn('its impulse alone: ', Words[refusal]);
+  WriteLn('  ', lower, ' to ', upper, ' Pa s');
   Ask('a wrong line', Copy(Line, 1, 43) + 'G', AnswerBytes);
   Ask('a short area', Line, AnswerBytes - 1);
 end.

@@ -39,6 +39,9 @@ uint64_t yakepuhi_from_line(const uint8_t *line, size_t line_length, uint8_t *ar
    same value. It never gives 2 or 8. */
 uint64_t yakepuhi_overpressure(const uint8_t *frame, size_t frame_length, uint64_t *lower, uint64_t *upper);
 
+/* The same for the impulse alone, in whole Pa s. */
+uint64_t yakepuhi_impulse(const uint8_t *frame, size_t frame_length, uint64_t *lower, uint64_t *upper);
+
 #ifdef __cplusplus
 }
 #endif

@@ -2,7 +2,8 @@
 use Prim.Native.Nat.{ℕ, _^_}
 use mathlib.Core.Path.{_≡_}
 use mathlib.Core.List.{List}
-use Rattle.guidance.specs.Waves.{standardAir, overpressure}
+use Rattle.exact.specs.Formula.{Formula}
+use Rattle.guidance.specs.declared.Case.{Case}
 use Rattle.frame.specs.declared.Verdict.{Verdict}
 use Rattle.frame.specs.declared.Verdict.the-variants.{Accepted, Refused}
 use Rattle.frame.specs.Refusals.{number}
@@ -20,13 +21,12 @@ pub record Entered (v : Verdict) (n : ℕ) (before after : List ℕ) : Type 0 wh
   pub returned : n ≡ code v
   pub area : Answered v before after
 
--- by the verdict: an accepted case's overpressure in whole pascals, enclosed within the width rule; a refusal leaves both numbers as they were
-abbrev pub Pressed : (v : Verdict) (lower upper lower-after upper-after : ℕ) → Type 0
-Pressed (Accepted c) lower upper lower-after upper-after =
-    Ended (overpressure standardAir c) (2 ^ 24) (record { lower = lower-after; upper = upper-after })
-Pressed (Refused r) lower upper lower-after upper-after = (lower-after ≡ lower) × (upper-after ≡ upper)
+-- by the verdict: an accepted case's figure x in whole units, enclosed within the width rule; a refusal leaves both numbers as they were
+abbrev pub Given : (x : Case → Formula) (v : Verdict) (lower upper lower-after upper-after : ℕ) → Type 0
+Given x (Accepted c) lower upper lower-after upper-after = Ended (x c) (2 ^ 24) (record { lower = lower-after; upper = upper-after })
+Given x (Refused r) lower upper lower-after upper-after = (lower-after ≡ lower) × (upper-after ≡ upper)
 
 -- the verdict on a frame that has room for its answer, so that test 8 never applies
-pub record PressureAnswered (frame : List ℕ) (lower upper n lower-after upper-after : ℕ) : Type 0 where
+pub record FigureAnswered (x : Case → Formula) (frame : List ℕ) (lower upper n lower-after upper-after : ℕ) : Type 0 where
   pub returned : n ≡ code (frameVerdict frame answerLength)
-  pub ends : Pressed (frameVerdict frame answerLength) lower upper lower-after upper-after
+  pub ends : Given x (frameVerdict frame answerLength) lower upper lower-after upper-after

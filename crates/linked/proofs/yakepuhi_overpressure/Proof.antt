@@ -1,6 +1,7 @@
 -- `linked::yakepuhi_overpressure` meets its contract: the verdict's number comes back, and the ends of an accepted case. Assumes nothing.
 use borrow.Author.Needs.{needs}
-use Rattle.linked.proofs.Pressures.{taken, pressed, kept}
+use Rattle.guidance.specs.Waves.{standardAir, overpressure}
+use Rattle.linked.proofs.Alone.{taken, given, kept}
 use Rattle.linked.proofs.yakepuhi_overpressure.Statement.{statement}
 use Rattle.linked.proofs.yakepuhi_overpressure.Tie as tie
 
@@ -24,12 +25,12 @@ pressure-requires c κs =
 returns : tie.Need-returns
 returns c =
     let frame = c .before .before .before .before .before .before .args .frame .now in
-    kept frame (c .before .before .before .before .decide-frame .ensures) (c .before .before .v .given .1) (c .number-of .ensures)
+    kept frame (c .before .before .before .before .decide-frame .ensures) {x = overpressure standardAir} (c .before .before .v .given .1) (c .number-of .ensures)
 
 returns-2 : tie.Need-returns-2
 returns-2 c =
     let frame = c .before .before .before .before .before .before .args .frame .now in
-    pressed frame (c .before .before .before .before .decide-frame .ensures) (c .before .before .v2 .given .1) (c .pressure .ensures)
+    given frame (c .before .before .before .before .decide-frame .ensures) (c .before .before .v2 .given .1) {x = overpressure standardAir} (c .pressure .ensures)
 
 pub yakepuhi-overpressure-spec : {M : Type 1} → statement M
 yakepuhi-overpressure-spec =
