@@ -6,7 +6,6 @@ use Rattle.exact.specs.Fraction.{_⊑_}
 use Rattle.exact.specs.Bracket.{Bracket, Meet}
 use Rattle.exact.specs.Formula.{Formula, bracketAt}
 
--- some N has a bracket
 pub record HasBracket (x : Formula) : Type 0 where
   pub place : ℕ
   pub from-one : 1 ≤ place

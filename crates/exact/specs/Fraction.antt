@@ -1,10 +1,8 @@
--- Fractions from 0 up, `Ratio`, and signed fractions, `Frac`: their order, by cross-multiplication, and their arithmetic. They are
--- the ends of the brackets of document 01, "What exact means", whose items the other files name by number.
+-- Fractions from 0 up (`Ratio`) and signed ones (`Frac`), the ends of the brackets of document 01, "What exact means", whose items the other files name by number.
 use Prim.Native.Nat.{ℕ, zero, suc, _+_, _*_, _-_, _≤_, _<_}
 use native.Mathlib.Nat.{mul-pos}
 use native.Mathlib.Omega.{arith}
 
--- num/den
 pub record Ratio : Type 0 where
   pub num : ℕ
   pub den : ℕ
@@ -36,7 +34,6 @@ x ⊖ y = record { num = x .num * y .den - y .num * x .den; den = x .den * y .de
 unfoldable pub recip : (x : Ratio) → Above0 x → Ratio
 recip x h = record { num = x .den; den = x .num; positive = h .above }
 
--- x^n
 unfoldable pub power : Ratio → ℕ → Ratio
 power x zero = whole 1
 power x (suc n) = x ⊗ power x n

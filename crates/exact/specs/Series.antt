@@ -6,7 +6,6 @@ use Rattle.exact.specs.Fraction.{Ratio, Above0, whole, _⊕_, _⊗_, _�
 use Rattle.exact.specs.laws.Positive.{odd-pos, two-pow-pos, factorial-pos, above-suc}
 unfoldable pub use Rattle.exact.specs.Fraction.{even, odd, factorial}
 
--- 1/n
 unfoldable pub oneOver : (n : ℕ) → 0 < n → Ratio
 oneOver n h = record { num = 1; den = n; positive = h }
 
