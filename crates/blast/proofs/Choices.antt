@@ -1,5 +1,5 @@
 -- Enclosures of a choice between two formulas, looser ones, and those of constants. Assumes nothing.
-use Prim.Native.Nat.{ℕ, _+_, _*_, _^_, _≤_}
+use Prim.Native.Nat.{ℕ, _≤_}
 use mathlib.Core.Path.{_≡_, subst⁻¹}
 use mathlib.Core.Bool.{Bool, true, false}
 use native.Mathlib.Omega.{arith}
@@ -51,9 +51,7 @@ image-of f i h =
       most = i .most;
     }
 
--- m between lo and hi in 2^-k, as a coefficient of the source
-pub whole-constant : (m lo hi e k : ℕ) → e + k ≡ 1024 → lo ≤ m * 2 ^ k → m * 2 ^ k ≤ hi → hi ≤ lo + 1 → 2 ^ 30 ≤ hi → hi ≤ 2 ^ 31 → lo ≤ hi
-    → Constant (ofRatio (whole m)) e (record { lo = lo; hi = hi; e = e })
+-- Px of the near field, as the source writes it
+pub eighteen : Constant (ofRatio (whole 18)) 998 (record { lo = 1207959552; hi = 1207959552; e = 998 })
 unfolding whole
-whole-constant m lo hi e k s l h c a b o =
-    coefficient (whole m) lo hi e k (record { scale = s; below = omega (arith, l); above = omega (arith, h); close = c; least = a; most = b; ordered = o })
+eighteen = coefficient _ _ _ _ 26 (omega arith)

@@ -64,11 +64,11 @@ fn is_accepted(area: &[u8; 80], refusal: u64, range: u64) -> bool {
 }
 
 // A vector's finding from its tests and its line's and frame's answers.
-fn found_of(accepted: u64, right: bool, answers: Answers) -> Finding {
-    let ok = if right { answers.unlike == 0 } else { false };
+fn found_of(accepted: u64, right: bool, given: Answers) -> Finding {
+    let ok = if right { given.unlike == 0 } else { false };
     Finding {
         accepted,
-        alike: answers.alike,
+        alike: given.alike,
         faulty: answers::fault(ok),
     }
 }
@@ -85,11 +85,11 @@ fn judge_accepted(
 {
     let at = after_values(vector, from);
     let mut area = [answers::FILL; 80];
-    let answers = answers::answers_to(&vector[at..], &mut area, room);
-    if !is_accepted(&area, answers.refusal, range) {
-        return found_of(1, false, answers);
+    let given = answers::answers_to(&vector[at..], &mut area, room);
+    if !is_accepted(&area, given.refusal, range) {
+        return found_of(1, false, given);
     }
-    found_of(1, compare(vector, from, &area, table), answers)
+    found_of(1, compare(vector, from, &area, table), given)
 }
 
 // A vector that is to be refused: its line starts at `from`.
@@ -97,11 +97,11 @@ fn judge_refused(vector: &[u8], from: usize, room: usize, refusal: u64) -> Findi
     requires { ⌜ (from ≤ length (now vector)) × (room ≤ 80) ⌝ }
 {
     let mut area = [answers::FILL; 80];
-    let answers = answers::answers_to(&vector[from..], &mut area, room);
-    if answers.refusal != refusal {
-        return found_of(0, false, answers);
+    let given = answers::answers_to(&vector[from..], &mut area, room);
+    if given.refusal != refusal {
+        return found_of(0, false, given);
     }
-    found_of(0, answers::is_kept(&area, 0), answers)
+    found_of(0, answers::is_kept(&area, 0), given)
 }
 
 fn room_of(value: u64) -> usize

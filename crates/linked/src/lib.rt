@@ -51,7 +51,7 @@ pub extern "C" fn yakepuhi_overpressure(frame: &[u8], lower: &mut u64, upper: &m
     }
 }
 
-// The impulse alone, without the work of the probits.
+// The impulse alone, without the work of the overpressure and the probits.
 #[no_mangle]
 pub extern "C" fn yakepuhi_impulse(frame: &[u8], lower: &mut u64, upper: &mut u64) -> u64
     ensures { λ n. ⌜ FigureAnswered (impulse standardAir) (now (frame .entry)) (now (lower .entry)) (now (upper .entry)) n (now (lower .exit)) (now (upper .exit)) ⌝ }

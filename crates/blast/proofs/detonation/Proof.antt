@@ -1,8 +1,7 @@
 -- `blast::detonation` meets its contract. Assumes nothing.
 use borrow.Author.Needs.{needs}
-use mathlib.Core.Path.{refl, sym, _∙_}
-use native.Mathlib.Omega.{arith}
-use Rattle.blast.proofs.Choices.{whole-constant}
+use mathlib.Core.Path.{sym, _∙_}
+use Rattle.blast.proofs.Choices.{eighteen}
 use Rattle.blast.proofs.Detonations.{placed, far, near-pressure, near-impulse, aerosol-pressure, aerosol-impulse, gas-pressure, gas-impulse}
 use Rattle.blast.proofs.detonation.Statement.{statement}
 use Rattle.blast.proofs.detonation.Tie as tie
@@ -18,7 +17,7 @@ returns c =
     let t = c .before in
     let s = t .before .before .pre in
     let close = sym (t .before .is-near-field .ensures) ∙ t .if1 .taken in
-    record { pressure = near-pressure s (whole-constant 18 _ _ 998 26 refl (omega arith) (omega arith) (omega arith) (omega arith) (omega arith) (omega arith)) close; impulse = near-impulse s close (c .near-impulse .ensures) }
+    record { pressure = near-pressure s eighteen close; impulse = near-impulse s close (c .near-impulse .ensures) }
 
 aerosol-detonation-requires : tie.Need-aerosol-detonation-requires
 aerosol-detonation-requires c κs =

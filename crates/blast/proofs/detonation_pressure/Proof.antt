@@ -1,7 +1,6 @@
 -- `blast::detonation_pressure` meets its contract. Assumes nothing.
-use mathlib.Core.Path.{refl, sym, _∙_}
-use native.Mathlib.Omega.{arith}
-use Rattle.blast.proofs.Choices.{whole-constant}
+use mathlib.Core.Path.{sym, _∙_}
+use Rattle.blast.proofs.Choices.{eighteen}
 use Rattle.blast.proofs.Detonations.{placed, far, near-pressure, aerosol-pressure, gas-pressure, aerosol-pressure-image, wider-distance, near-log, gas-pressure-image}
 use Rattle.blast.proofs.detonation_pressure.Statement.{statement}
 use Rattle.blast.proofs.detonation_pressure.Tie as tie
@@ -10,7 +9,7 @@ is-near-field-requires : tie.Need-is-near-field-requires
 is-near-field-requires c κs = placed (c .pre .ready)
 
 returns : tie.Need-returns
-returns c = near-pressure (c .before .before .pre) (whole-constant 18 _ _ 998 26 refl (omega arith) (omega arith) (omega arith) (omega arith) (omega arith) (omega arith))
+returns c = near-pressure (c .before .before .pre) eighteen
     (sym (c .before .is-near-field .ensures) ∙ c .if1 .taken)
 
 aerosol-pressure-requires : tie.Need-aerosol-pressure-requires

@@ -1,7 +1,5 @@
 -- `blast::pascal_seconds` meets its contract. Assumes nothing.
-use mathlib.Core.Path.{refl}
-use native.Mathlib.Omega.{arith}
-use Rattle.blast.proofs.Choices.{whole-constant}
+use Rattle.waves.specs.Coefficients.{sound-speed}
 use Rattle.blast.proofs.Reduced.{worded}
 use Rattle.blast.proofs.Finals.{share-factors, joules-rootable, all-factors, sound-divides, impulse-result}
 use Rattle.blast.proofs.pascal_seconds.Statement.{statement}
@@ -39,7 +37,7 @@ quo-requires c κs =
     let p = m .before in
     let h = p .before .pre in
     sound-divides (h .0) (h .1) (p .air-power .ensures) (m .mul .ensures) (e .energy .ensures) (u .cube-root .ensures) (c .mul2 .ensures)
-    (whole-constant 340 _ _ 1002 22 refl (omega arith) (omega arith) (omega arith) (omega arith) (omega arith) (omega arith))
+    sound-speed
 
 returns : tie.Need-returns
 returns c =
@@ -50,7 +48,7 @@ returns c =
     let p = m .before in
     let h = p .before .pre in
     impulse-result (h .0) (h .1) (p .air-power .ensures) (m .mul .ensures) (e .energy .ensures) (u .cube-root .ensures) (n .mul2 .ensures)
-    (whole-constant 340 _ _ 1002 22 refl (omega arith) (omega arith) (omega arith) (omega arith) (omega arith) (omega arith)) (c .quo .ensures)
+    sound-speed (c .quo .ensures)
 
 pub pascal-seconds-spec : {M : Type 1} → statement M
 pascal-seconds-spec =

@@ -4,7 +4,7 @@ use mathlib.Core.Path.{_≡_, ap, _∙_}
 use native.Mathlib.Omega.{arith}
 use borrow.Author.Needs.{needs}
 use Rattle.frame.specs.Digits.{digitOf}
-use Rattle.frame.specs.laws.Limits.{base-digit}
+use Rattle.frame.specs.laws.Spelling.{base-digit}
 use Rattle.frame.proofs.digit_of.Statement.{statement}
 use Rattle.frame.proofs.digit_of.Tie as tie
 

@@ -1,13 +1,11 @@
 -- Laws of the test that a number lies within its values. Assumes nothing.
-use Prim.Native.Nat.{ℕ, _+_, _-_, _≤_}
+use Prim.Native.Nat.{ℕ, _≤_}
 use mathlib.Core.Path.{_≡_, refl, ap, _∙_}
 use mathlib.Core.Bool.{Bool, true, false, _&&_, _||_}
 use native.Mathlib.Omega.{arith}
 use lib.Dec.{leb}
 use borrow.Author.Tests.{leb-true, not-false}
-use Rattle.guidance.specs.Choice.{pick}
-use Rattle.frame.specs.Digits.{within, digitOf}
-use Rattle.frame.specs.Spelling.{baseOf}
+use Rattle.frame.specs.Digits.{within}
 use Rattle.frame.specs.Verdicts.{outside}
 
 -- both parts of a conjunction that holds
@@ -30,15 +28,3 @@ module _ (least most x : ℕ) where
 
   pub inside : outside least most x ≡ false → (least ≤ x) × (x ≤ most)
   inside h = within-true (not-false _ h)
-
--- a digit, and what it is counted from
-pub base-digit : (x : ℕ) → baseOf x + digitOf x ≡ x + 16
-unfolding baseOf digitOf
-base-digit x = go (within 48 57 x) refl (within 65 70 x) refl (within 97 102 x) refl
-  where
-    go : (a : Bool) → within 48 57 x ≡ a → (b : Bool) → within 65 70 x ≡ b → (c : Bool) → within 97 102 x ≡ c
-        → pick a 64 (pick b 71 (pick c 103 x)) + pick a (x - 48) (pick b (x - 55) (pick c (x - 87) 16)) ≡ x + 16
-    go true h b i c j = omega (arith, within-true 48 57 x h)
-    go false h true i c j = omega (arith, within-true 65 70 x i)
-    go false h false i true j = omega (arith, within-true 97 102 x j)
-    go false h false i false j = omega arith

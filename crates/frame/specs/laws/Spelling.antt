@@ -1,15 +1,29 @@
 -- Laws of the bytes that a line spells: two characters at a time, one byte. Assumes nothing.
-use Prim.Native.Nat.{ℕ, zero, suc, _+_, _*_, _≤_, _<_}
+use Prim.Native.Nat.{ℕ, zero, suc, _+_, _*_, _-_, _≤_, _<_}
 use mathlib.Core.Path.{_≡_, refl, sym, ap, _∙_}
-use mathlib.Core.Bool.{true, false}
+use mathlib.Core.Bool.{Bool, true, false}
 use mathlib.Core.List.{List, [], _∷_, _++_, append-assoc, append-nil}
 use native.Mathlib.Numerals.{add-one}
 use native.Mathlib.Omega.{arith}
 use lib.ListN.{length, getD, take, drop, set, length-set, drop-of-length-le}
 use lib.Seq.{drop-cons, take-suc-set, take-all}
 use borrow.Author.Tests.{le-ltb, lt-ltb}
-use Rattle.frame.specs.Digits.{digitOf, allDigits, bytesOf}
-use Rattle.frame.specs.Spelling.{Spelled}
+use Rattle.guidance.specs.Choice.{pick}
+use Rattle.frame.specs.Digits.{within, digitOf, allDigits, bytesOf}
+use Rattle.frame.specs.Spelling.{baseOf, Spelled}
+use Rattle.frame.specs.laws.Limits.{within-true}
+
+-- a digit, and what it is counted from
+pub base-digit : (x : ℕ) → baseOf x + digitOf x ≡ x + 16
+unfolding baseOf digitOf
+base-digit x = go (within 48 57 x) refl (within 65 70 x) refl (within 97 102 x) refl
+  where
+    go : (a : Bool) → within 48 57 x ≡ a → (b : Bool) → within 65 70 x ≡ b → (c : Bool) → within 97 102 x ≡ c
+        → pick a 64 (pick b 71 (pick c 103 x)) + pick a (x - 48) (pick b (x - 55) (pick c (x - 87) 16)) ≡ x + 16
+    go true h b i c j = omega (arith, within-true 48 57 x h)
+    go false h true i c j = omega (arith, within-true 65 70 x i)
+    go false h false i true j = omega (arith, within-true 97 102 x j)
+    go false h false i false j = omega arith
 
 -- after i bytes: what is left of the line decides, and gives the bytes that are left
 pub record Begun (line frame : List ℕ) (i : ℕ) : Type 0 where
