@@ -1,6 +1,6 @@
 /* Holds reckon's records against a peer's: `compare LINES RECKON PEER meet|inside`.
    Every verdict is worked anew from the line; reckon's intervals are held to the widths and its damages to its own ends;
-   the peer's intervals must meet reckon's, or lie inside them. Exit status 0 where nothing is wrong. */
+   the peer's intervals must meet reckon's, or lie inside them, which also counts those of reckon's that are wider. Exit status 0 where nothing is wrong. */
 #include "shared.h"
 
 #include <stdio.h>
@@ -14,7 +14,13 @@ struct record {
     int damage[PROBITS][2];
 };
 
+enum { FIGURES = 2 + PROBITS };
+static const char *const names[FIGURES] = { "pressure", "impulse", "Pr1", "Pr2", "Pr3", "Pr4", "Pr5" };
+
 static uint64_t faults, number;
+
+/* Answers whose seven intervals are the peer's, and intervals of each figure that are not. */
+static uint64_t equal, wider[FIGURES];
 
 static void fault(const char *what)
 {
@@ -106,15 +112,20 @@ static ssize_t next_line(FILE *file, char **text, size_t *room)
     return length > 0 && (*text)[length - 1] == '\n' ? length - 1 : length;
 }
 
+static const int64_t *figure(const struct figures *f, int n) { return n == 0 ? f->pressure : n == 1 ? f->impulse : f->probit[n - 2]; }
+
 /* reckon's answer against the peer's. */
 static void hold_answers(const struct record *ours, const struct record *theirs, int inside)
 {
-    static const char *const names[PROBITS] = { "Pr1", "Pr2", "Pr3", "Pr4", "Pr5" };
+    int same = 1;
     rules(ours);
-    hold(ours->f.pressure, theirs->f.pressure, inside, "pressure");
-    hold(ours->f.impulse, theirs->f.impulse, inside, "impulse");
-    for (int i = 0; i < PROBITS; i++)
-        hold(ours->f.probit[i], theirs->f.probit[i], inside, names[i]);
+    for (int n = 0; n < FIGURES; n++) {
+        const int64_t *a = figure(&ours->f, n), *b = figure(&theirs->f, n);
+        hold(a, b, inside, names[n]);
+        if (a[0] != b[0] || a[1] != b[1])
+            wider[n]++, same = 0;
+    }
+    equal += (uint64_t)same;
 }
 
 /* A line and its two records; gives the line's refusal, 0 for none. */
@@ -148,6 +159,15 @@ static int next_lines(FILE *const file[3], char *text[3], size_t room[3], ssize_
     return left == 3;
 }
 
+/* How often reckon's ends are the peer's own: at 256 bits, the exact floor and ceiling. */
+static void count_ends(uint64_t answered)
+{
+    printf("exact ends: %llu of %llu frames, %.2f %%; wider", (unsigned long long)equal, (unsigned long long)answered, 100.0 * (double)equal / (double)answered);
+    for (int n = 0; n < FIGURES; n++)
+        printf(" %s:%llu", names[n], (unsigned long long)wider[n]);
+    printf("\n");
+}
+
 int main(int count, char **words)
 {
     if (count != 5 || (strcmp(words[4], "meet") && strcmp(words[4], "inside")))
@@ -157,13 +177,16 @@ int main(int count, char **words)
     size_t room[3] = { 0 };
     ssize_t length[3];
     uint64_t verdicts[9] = { 0 };
+    int inside = strcmp(words[4], "inside") == 0;
     for (int i = 0; i < 3; i++)
         file[i] = open_or_end(words[1 + i]);
     while (next_lines(file, text, room, length))
-        verdicts[hold_line(text, length, strcmp(words[4], "inside") == 0)]++;
+        verdicts[hold_line(text, length, inside)]++;
     printf("%llu lines, %llu accepted, refused", (unsigned long long)number, (unsigned long long)verdicts[0]);
     for (int i = 1; i < 8; i++)
         printf(" %d:%llu", i, (unsigned long long)verdicts[i]);
     printf("; %llu faults\n", (unsigned long long)faults);
+    if (inside && verdicts[0] > 0)
+        count_ends(verdicts[0]);
     return faults > 0;
 }

@@ -11,6 +11,7 @@
 `check` and `against` print a line for every fault, and last the counts; their exit status is 0 where there is no fault.
 Everything that document 01 decides exactly is decided here with fractions. FILE and ANSWERS may be - for standard input.
 """
+import math
 import os
 import subprocess
 import sys
@@ -342,20 +343,27 @@ def random_lines(count, seed):
 
 Q = [0, 0, 0, 1, 100, 1, 1, 1013, 100, 70]
 PROPANE = b'11000104007A1200057803020000B540000027100046'
+# The printed examples: file of the data, line, pressure, impulse, probits and damages in percent as they are printed, '' where nothing is.
 EXAMPLES = (
-    ('003 example 1', b'11000104007A1200057803020000B540000027100050', '28,000', '20,400', ('6.06', '4.47', '-1.93', '3.06', '2.78')),
-    ('003 example 2', b'15000101000186A0032003840000B3B000003A980050', '6,500', '126.4', ('2.69', '1.69', '-11.67', '0.76', '-13.21')),
-    ('004 at 80 m', b'11000104007A1200057803020000B54000001F400046', '44,000', '28,400', ('6.48', '4.91', '', '', '')),
-    ('004 at 100 m', PROPANE, '28,000', '20,400', ('6.06', '4.47', '', '', '')),
-    ('004 at 135 m', b'11000104007A1200057803020000B540000034BC0046', '19,000', '13,700', ('5.84', '4.12', '', '', '')),
+    ('003_1', b'11000104007A1200057803020000B540000027100050', '2.8e4', '2.04e4', ('6.06', '4.47', '-1.93', '3.06', '2.78'), ('86', '30', '', '2.5', '1')),
+    ('003_2', b'15000101000186A0032003840000B3B000003A980050', '6.5e3', '126.4', ('2.69', '1.69', '-11.67', '0.76', '-13.21'), ('1', '', '', '', '')),
+    ('004_80', b'11000104007A1200057803020000B54000001F400046', '4.4e4', '2.84e4', ('6.48', '4.91', '', '', ''), ('93', '47', '', '', '')),
+    ('004_100', PROPANE, '2.8e4', '2.04e4', ('6.06', '4.47', '', '', ''), ('86', '28', '', '', '')),
+    ('004_135', b'11000104007A1200057803020000B540000034BC0046', '1.9e4', '1.37e4', ('5.84', '4.12', '', '', ''), ('80', '19', '', '', '')),
 )
 
 
-# document 01's figures called near: place in the answer, two numbers around the figure, line. A pressure is held to the last place that
+# document 01's figures called near: number of the figure, two numbers around it, line, name. A pressure is held to the last place that
 # is printed there, an impulse to the whole numbers around it.
 NEAR = (
-    (1, 32915, 32925, b'000000010000006400010001000003F5000000640046'), (9, 9, 10, b'000000010000006400010001000003F5000000640046'),
-    (9, 6, 7, b'000100010000006400010001000003F5000000640046'), (1, 28950, 29050, PROPANE),
+    (0, 32915, 32925, frame_line(Q), 'Q, overpressure 32,920'), (1, 9, 10, frame_line(Q), 'Q, impulse 9.73'),
+    (1, 6, 7, b'000100010000006400010001000003F5000000640046', 'Q heterogeneous, impulse 6.55'), (0, 28950, 29050, PROPANE, 'propane, overpressure 29.0 kPa'),
+)
+# figures that are not near, each for one reason: the lower end, the upper end, a refused line, no such figure, a lost sign
+FAR = (
+    (0, 32921, 32925, frame_line(Q), 'Q, overpressure from 32,921 on'), (0, 32915, 32920, frame_line(Q), 'Q, overpressure up to 32,920'),
+    (0, -200000, 200000, frame_line(Q[:8] + [2401, 70]), 'Q at 2401 cm, refused'), (12, 0, 200000, frame_line(Q), 'a thirteenth figure'),
+    (4, 3109, 3112, PROPANE, 'propane, Pr3 without its sign'),
 )
 
 
@@ -487,6 +495,44 @@ def refusals():
 UNIT = 10**12
 
 
+def scaled_figures(pressure, impulse, probits, damages):
+    """The printed figures with their numbers: name, number, and the least and the most that agree, in the answer's units.
+
+    A pressure, an impulse or a probit agrees within one unit of the last place that is printed, a damage only as it is.
+    """
+    names = ('overpressure', 'impulse') + NAMES[2:] + tuple('damage %d' % n for n in range(1, 6))
+    for number, (name, text) in enumerate(zip(names, (pressure, impulse) + probits + damages)):
+        if text:
+            digits, _, exponent = text.partition('e')
+            power = int(exponent or 0)
+            value = Fraction(digits) * 10**power
+            place = Fraction(0) if number > 6 else Fraction(10)**(power - len(digits.partition('.')[2]))
+            unit = 1 if number < 2 else 1000 if number < 7 else 10
+            shown = text if '.' in text and not exponent else str(int(value))
+            yield number, math.floor((value - place) * unit), math.ceil((value + place) * unit), '%s %s' % (name, shown)
+
+
+def planted():
+    """Vectors with one fault each: in the data (N), in both answers (B) or in the frame's answer alone (F), a byte at a place or, at 80, the verdict."""
+    right = vector(frame_line(Q), 80).split(b' ')
+    refused = vector(frame_line(changed(Q, r=2401)), 80).split(b' ')
+
+    def with_word(words, at, word):
+        return b' '.join(words[:at] + [word] + words[at + 1:])
+
+    def moved(at, by):
+        return with_word(right, at, decimal(mpf(right[at].decode()) + by).encode())
+
+    for text in (moved(2, 1), moved(3, -1), with_word(right, 4, right[4].lstrip(b'-')), moved(8, mpf('0.001')),
+                 with_word(right, 1, b'A2'), with_word(refused, 1, b'R6')):
+        yield b'N0 0 ' + text
+    wide = b'B24 %d' % ((math.ceil(1000 * Fraction(right[4].decode())) + 2) % 256)
+    for place in (b'B80 7', b'B8 255', wide, b'B58 10', b'B76 10', b'B77 1', b'B79 1', b'F80 7', b'F0 2', b'F79 1'):
+        yield place + b' ' + b' '.join(right)
+    for place in (b'B0 1', b'B79 1'):
+        yield place + b' ' + b' '.join(refused)
+
+
 def decimal(value):
     """The value with twelve places, rounded down; one that is a whole number of places is taken for exact."""
     scaled = value * UNIT
@@ -506,6 +552,12 @@ def vector(line, room):
     return b'%d A%d %s %s\n' % (room, verdict[1], ' '.join(map(decimal, exact)).encode(), line)
 
 
+def write_lines(directory, name, lines):
+    with open(os.path.join(directory, name), 'wb') as file:
+        for line in lines:
+            file.write(line + b'\n')
+
+
 def vectors(directory):
     source = Source(1)
     groups = (
@@ -521,24 +573,23 @@ def vectors(directory):
     with open(os.path.join(directory, 'table'), 'wb') as file:
         for tenths, hundredths in TABLE3:
             file.write(b'%d %d\n' % (tenths, hundredths))
-    with open(os.path.join(directory, 'near'), 'wb') as file:
-        for item in NEAR:
-            file.write(b'%d %d %d %s\n' % item)
-    with open(os.path.join(directory, 'printed'), 'wb') as file:
-        for name, line, pressure, impulse, printed in EXAMPLES:
-            figures = [pressure.replace(',', ''), impulse.replace(',', '')] + [figure for figure in printed if figure]
-            file.write(line + (' %s, printed: %s\n' % (name, ' '.join(figures))).encode())
+    write_lines(directory, 'planted', (text.rstrip(b'\n') for text in planted()))
+    for name, figures in [('near', NEAR), ('far', FAR)]:
+        write_lines(directory, name, (b'%d %d %d %s %s' % (number, least, most, line, what.encode()) for number, least, most, line, what in figures))
+    for name, line, *printed in EXAMPLES:
+        figures = scaled_figures(*printed)
+        write_lines(directory, 'printed_' + name, (b'%d %d %d %s %s' % (number, least, most, line, what.encode()) for number, least, most, what in figures))
     return 0
 
 
 def examples():
     """The printed examples, each figure beside the value of document 01's rules."""
-    for name, line, pressure, impulse, printed in EXAMPLES:
+    for name, line, pressure, impulse, probits, damages in EXAMPLES:
         verdict = decide(line)
         exact, branch = values(*verdict)
         print('%s: %s' % (name, line.decode()))
         print('  E %s J, Rx %s, %s' % (mp.nstr(real(verdict[2]), 8), mp.nstr(reduced_distance(verdict[0], verdict[2]), 6), branch))
-        for what, value, shown in zip(NAMES, exact, (pressure, impulse) + printed):
+        for what, value, shown in zip(NAMES, exact, (pressure, impulse) + probits):
             read = '' if what in NAMES[:2] else ', damage %.1f %%' % (damage(int(mp.floor(1000 * value))) / 10)
             print('  %-8s %s%s (printed %s)' % (what, mp.nstr(value, 9), read, shown or 'nowhere'))
     return 0

@@ -3,15 +3,17 @@
    The arguments of each row are drawn once, from a fixed seed, and are the same for both columns: intervals of up to 256 units of
    2^-30, and the double at their lower end. */
 #include <math.h>
+#include <stdbool.h>
 #include <stdint.h>
 #include <stdio.h>
 #include <string.h>
 #include <time.h>
 
-int64_t enclosure_ln(uint64_t m, uint64_t n, uint32_t e, int64_t *lower);
-uint32_t enclosure_expo(int64_t y, int64_t z, uint64_t *lower, uint64_t *upper);
-uint32_t enclosure_mul(uint64_t m, uint64_t n, uint32_t e, uint64_t p, uint64_t q, uint32_t f, uint64_t *lower, uint64_t *upper);
-uint32_t enclosure_quo(uint64_t m, uint64_t n, uint32_t e, uint64_t p, uint64_t q, uint32_t f, uint64_t *lower, uint64_t *upper);
+/* false where the library does not take the arguments; none drawn here is such a one */
+bool enclosure_ln(uint64_t m, uint64_t n, uint32_t e, int64_t *lower, int64_t *upper);
+bool enclosure_expo(int64_t y, int64_t z, uint64_t *lower, uint64_t *upper, uint32_t *exponent);
+bool enclosure_mul(uint64_t m, uint64_t n, uint32_t e, uint64_t p, uint64_t q, uint32_t f, uint64_t *lower, uint64_t *upper, uint32_t *exponent);
+bool enclosure_quo(uint64_t m, uint64_t n, uint32_t e, uint64_t p, uint64_t q, uint32_t f, uint64_t *lower, uint64_t *upper, uint32_t *exponent);
 
 enum { COUNT = 1 << 12, ROUNDS = 64, REPEATS = 25 };
 
@@ -51,21 +53,29 @@ double plain_quo(double a, double b);
 __attribute__((noinline)) double plain_mul(double a, double b) { return a * b; }
 __attribute__((noinline)) double plain_quo(double a, double b) { return a / b; }
 
-/* All numbers of the result are used: they are added. */
+/* All numbers of the result are used: they are added. A refusal is counted. */
+static uint64_t refused;
 static uint64_t ln(const span *s) {
-    int64_t l, u = enclosure_ln(s->lo, s->hi, s->e, &l);
+    int64_t l = 0, u = 0;
+    refused += !enclosure_ln(s->lo, s->hi, s->e, &l, &u);
     return (uint64_t)l + (uint64_t)u;
 }
 static uint64_t expo(const log_span *s) {
-    uint64_t l, u, k = enclosure_expo(s->lo, s->hi, &l, &u);
+    uint64_t l = 0, u = 0;
+    uint32_t k = 0;
+    refused += !enclosure_expo(s->lo, s->hi, &l, &u, &k);
     return l + u + k;
 }
 static uint64_t mul(const span *s, const span *t) {
-    uint64_t l, u, k = enclosure_mul(s->lo, s->hi, s->e, t->lo, t->hi, t->e, &l, &u);
+    uint64_t l = 0, u = 0;
+    uint32_t k = 0;
+    refused += !enclosure_mul(s->lo, s->hi, s->e, t->lo, t->hi, t->e, &l, &u, &k);
     return l + u + k;
 }
 static uint64_t quo(const span *s, const span *t) {
-    uint64_t l, u, k = enclosure_quo(s->lo, s->hi, s->e, t->lo, t->hi, t->e, &l, &u);
+    uint64_t l = 0, u = 0;
+    uint32_t k = 0;
+    refused += !enclosure_quo(s->lo, s->hi, s->e, t->lo, t->hi, t->e, &l, &u, &k);
     return l + u + k;
 }
 
@@ -133,5 +143,6 @@ int main(void) {
     sink += last;
     out += d;
     printf("(%d)\n", (int)((sink + (uint64_t)out) & 1)); /* the results are used */
-    return 0;
+    if (refused) printf("%llu calls refused\n", (unsigned long long)refused);
+    return refused != 0;
 }

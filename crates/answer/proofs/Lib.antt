@@ -1,3 +1,4 @@
+pub mod Exactness
 pub mod Numbers
 pub mod Writing
 pub mod Verdicts

@@ -1,29 +1,24 @@
 -- The numbers of an answer, from what the wave and the probits promise. Assumes nothing.
-use Prim.Native.Nat.{_^_}
 use native.Mathlib.Nat.{le-refl}
 use native.Mathlib.Omega.{arith}
-use Rattle.exact.specs.Formula.{Formula}
-use Rattle.exact.specs.laws.Meeting.{any-two-meet}
 use Rattle.span.specs.Enclosing.{Encloses}
 use Rattle.enclosure.specs.Promises.{enough}
 use Rattle.guidance.specs.declared.Case.{Case}
 use Rattle.guidance.specs.declared.Cloud.{Cloud}
 use Rattle.guidance.specs.Cases.{Accepted}
-use Rattle.guidance.specs.Words.{CloudOf}
+use Rattle.guidance.specs.CloudWords.{CloudOf}
 use Rattle.guidance.specs.Waves.{standardAir, overpressure, impulse}
 use Rattle.guidance.specs.Probits.{probit1, probit2, probit3, probit4, probit5}
 use Rattle.guidance.specs.laws.Limits.{range-most}
 use Rattle.layout.specs.declared.Ends.{Ends}
 use Rattle.layout.specs.declared.Probits.{Probits}
 use Rattle.blast.specs.declared.Wave.{Wave}
-use Rattle.blast.specs.Promises.{WaveOf, Rounded, Ended}
+use Rattle.blast.specs.Promises.{WaveOf, Rounded}
 use Rattle.blast.specs.Ending.{pressure-ended, impulse-ended}
 use Rattle.probits.specs.Promises.{AllProbits}
-use Rattle.answer.specs.Answer.{WaveEnds}
-use Rattle.answer.specs.Steps.{FiguresOf}
-
-ends : {x : Formula} {e : Ends} → Ended x (2 ^ 24) e → WaveEnds x e
-ends h = record { holds = h .holds; meet = h .meet; closed = h .closed; fits = omega (arith, h .small) }
+use Rattle.answer.specs.Entering.{FiguresOf}
+use Rattle.answer.specs.laws.Between.{wave-ends}
+use Rattle.answer.proofs.Exactness.{probit-ends}
 
 module _ {c : Case} {k : Cloud} {w : Wave} (a : Accepted standardAir c) (q : CloudOf c k) (v : WaveOf standardAir c w) where
   pressure-encloses : Encloses (w .pressure) (overpressure standardAir c) enough
@@ -40,11 +35,11 @@ module _ {c : Case} {k : Cloud} {w : Wave} (a : Accepted standardAir c) (q : Clo
       record {
         range = q .range;
         small = omega (arith, q .range, range-most c (a .fields));
-        pressure-ends = ends (pressure-ended (v .pressure) f);
-        impulse-ends = ends (impulse-ended (v .impulse) g);
-        first = record { holds = h .first .holds _ _ enough (le-refl enough) pressure-encloses impulse-encloses; meet = any-two-meet _; closed = h .first .closed };
-        second = record { holds = h .second .holds _ _ enough (le-refl enough) pressure-encloses impulse-encloses; meet = any-two-meet _; closed = h .second .closed };
-        third = record { holds = h .third .holds _ _ enough (le-refl enough) pressure-encloses impulse-encloses; meet = any-two-meet _; closed = h .third .closed };
-        fourth = record { holds = h .fourth .holds _ enough (le-refl enough) pressure-encloses; meet = any-two-meet _; closed = h .fourth .closed };
-        fifth = record { holds = h .fifth .holds _ _ enough (le-refl enough) pressure-encloses impulse-encloses; meet = any-two-meet _; closed = h .fifth .closed };
+        pressure-ends = wave-ends (pressure-ended (v .pressure) f);
+        impulse-ends = wave-ends (impulse-ended (v .impulse) g);
+        first = probit-ends _ (h .first .holds _ _ enough (le-refl enough) pressure-encloses impulse-encloses) (h .first .closed);
+        second = probit-ends _ (h .second .holds _ _ enough (le-refl enough) pressure-encloses impulse-encloses) (h .second .closed);
+        third = probit-ends _ (h .third .holds _ _ enough (le-refl enough) pressure-encloses impulse-encloses) (h .third .closed);
+        fourth = probit-ends _ (h .fourth .holds _ enough (le-refl enough) pressure-encloses) (h .fourth .closed);
+        fifth = probit-ends _ (h .fifth .holds _ _ enough (le-refl enough) pressure-encloses impulse-encloses) (h .fifth .closed);
       }

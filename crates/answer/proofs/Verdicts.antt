@@ -7,7 +7,7 @@ use Rattle.guidance.specs.declared.Case.{Case}
 use Rattle.frame.specs.declared.Verdict.{Verdict}
 use Rattle.frame.specs.Verdicts.{frameVerdict, lineVerdict}
 use Rattle.frame.specs.laws.Verdicts.{Taken, frame-accepted, line-accepted}
-use Rattle.answer.specs.Steps.{Due, Enterable}
+use Rattle.answer.specs.Entering.{Due, Enterable}
 
 due : {d c : Case} {area : List ℕ} → Taken d c (length area) → Due c area
 due t = record { accepted = t .accepted; room = t .enough }

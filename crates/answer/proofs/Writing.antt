@@ -1,40 +1,27 @@
 -- From the numbers of an answer to the area that holds them. Assumes nothing.
 use mathlib.Core.Path.{_≡_, refl, sym, ap, _∙_, subst}
-use Prim.Native.Nat.{ℕ, _+_, _^_, _≤_, _<_}
+use Prim.Native.Nat.{ℕ, _≤_}
 use mathlib.Core.List.{List, _++_}
 use native.Mathlib.Nat.{zero-add}
 use native.Mathlib.Omega.{arith}
-use lib.IntN.{ℤ, pos, negsuc}
 use lib.ListN.{length, take, drop}
 use lib.Seq.{sets, sets-eq, length-sets, take-at, drop-at}
-use lib.Signed.{mag}
 use Rattle.guidance.specs.declared.Case.{Case}
-use Rattle.fixed.specs.Signed.{up, dn}
-use Rattle.layout.specs.declared.Probit.{Probit}
 use Rattle.layout.specs.Bytes.{two, four, words, signeds, halves}
-use Rattle.layout.specs.Places.{Fits, Fit, answerBytes, rangeByte, waveBytes, probitOf, probitBytes, damageOf, damageBytes}
-use Rattle.probits.specs.Promises.{Thousandth}
+use Rattle.layout.specs.Places.{answerBytes, rangeByte, waveBytes, probitOf, probitBytes, damageOf, damageBytes}
+use Rattle.layout.specs.Fitting.{Fit}
 use Rattle.answer.specs.declared.Figures.{Figures}
 use Rattle.answer.specs.Answer.{readings, Answer, Wrote}
-use Rattle.answer.specs.Steps.{FiguresOf}
-
--- the ends of a probit fit 32 bits
-
-mag-of : (z : ℤ) → up z < 2 ^ 31 → dn z < 2 ^ 31 → mag z < 2 ^ 31
-mag-of (pos n) u d = omega arith
-mag-of (negsuc n) u d = omega arith
-
-fits : (p : Probit) → Thousandth (p .lower) (p .upper) → Fits p
-fits p k = record { lower = mag-of (p .lower) (k .lower-up) (k .lower-dn); upper = mag-of (p .upper) (k .upper-up) (k .upper-dn) }
+use Rattle.answer.specs.Entering.{FiguresOf}
 
 pub all-fit : {c : Case} {f : Figures} → FiguresOf c f → Fit (f .probits)
 all-fit h =
     record {
-      first = fits _ (h .first .closed);
-      second = fits _ (h .second .closed);
-      third = fits _ (h .third .closed);
-      fourth = fits _ (h .fourth .closed);
-      fifth = fits _ (h .fifth .closed);
+      first = record { lower = h .first .lower-fits; upper = h .first .upper-fits };
+      second = record { lower = h .second .lower-fits; upper = h .second .upper-fits };
+      third = record { lower = h .third .lower-fits; upper = h .third .upper-fits };
+      fourth = record { lower = h .fourth .lower-fits; upper = h .fourth .upper-fits };
+      fifth = record { lower = h .fifth .lower-fits; upper = h .fifth .upper-fits };
     }
 
 -- the 77 bytes at the area's start

@@ -1,13 +1,17 @@
 -- What an accepted case's answer frame is (document 01, "The answer frame", "What exact means"), and what the entries promise.
 -- The interval ends are open: they enclose their value within the written width. All else is an equation.
-use Prim.Native.Nat.{ℕ, _^_, _<_}
+use Prim.Native.Nat.{ℕ, suc, _+_, _*_, _-_, _^_, _≤_, _<_}
 use mathlib.Core.Path.{_≡_}
 use mathlib.Core.List.{List}
+use mathlib.Core.Option.{some}
+use native.Mathlib.Omega.{arith}
+use lib.IntN.{ℤ, pos, negsuc}
 use lib.ListN.{length, take, drop}
-use Rattle.exact.specs.Formula.{Formula}
-use Rattle.exact.specs.Exact.{Holds, AnyTwoMeet}
-use Rattle.span.specs.Wholes.{wholes, Closed}
-use Rattle.fixed.specs.Millis.{millis}
+use lib.Signed.{mag}
+use Rattle.exact.specs.Fraction.{Frac, _⊑_, _⊟_, _⊠_}
+use Rattle.exact.specs.Bracket.{Bracket, Meet}
+use Rattle.exact.specs.Formula.{Formula, bracketAt}
+use Rattle.exact.specs.Exact.{HasBracket, AnyTwoMeet, Closes}
 use Rattle.guidance.specs.declared.Case.{Case}
 use Rattle.guidance.specs.Clouds.{rangeOf}
 use Rattle.guidance.specs.Waves.{standardAir, overpressure, impulse}
@@ -21,21 +25,40 @@ use Rattle.layout.specs.declared.Probit.{Probit}
 use Rattle.layout.specs.declared.Probits.{Probits}
 use Rattle.layout.specs.declared.Damages.{Damages}
 use Rattle.layout.specs.Places.{answerBytes}
-use Rattle.probits.specs.Promises.{Thousandth}
 
--- an overpressure in Pa or an impulse in Pa·s: the interval holds the exact value for every N, any two of the value's brackets meet,
--- and 10,000 × (upper - lower) is at most 20,000 + lower
+-- a whole number as a fraction, and an interval of two
+unfoldable pub wholeZ : ℤ → Frac
+wholeZ (pos n) = record { plus = n; minus = 0; den = 1; positive = omega arith }
+wholeZ (negsuc n) = record { plus = 0; minus = suc n; den = 1; positive = omega arith }
+
+abbrev pub wholes : ℤ → ℤ → Bracket
+wholes l u = record { lo = wholeZ l; hi = wholeZ u }
+
+-- a bracket with its ends times k
+unfoldable pub times : ℕ → Bracket → Bracket
+times k B = record { lo = wholeZ (pos k) ⊠ B .lo; hi = wholeZ (pos k) ⊠ B .hi }
+
+-- k times the exact value of x lies from l to u: the interval meets the N-th bracket, its ends times k, for every N from 1 that has one;
+-- some N has one; any two brackets of x meet; and they close on one number
+pub record ExactBetween (k : ℕ) (x : Formula) (l u : ℤ) : Type 0 where
+  pub ordered : wholeZ l ⊑ wholeZ u
+  pub meets : (n : ℕ) → 1 ≤ n → (B : Bracket) → bracketAt x n ≡ some B → Meet (wholes l u) (times k B)
+  pub there : HasBracket x
+  pub agree : AnyTwoMeet x
+  pub closes : Closes x
+
+-- an overpressure in Pa or an impulse in Pa·s: 10,000 × (upper - lower) is at most 20,000 + lower
 pub record WaveEnds (x : Formula) (e : Ends) : Type 0 where
-  pub holds : Holds (wholes (e .lower) (e .upper)) x
-  pub meet : AnyTwoMeet x
-  pub closed : Closed (e .lower) (e .upper)
+  pub value : ExactBetween 1 x (pos (e .lower)) (pos (e .upper))
+  pub closed : 10000 * (e .upper - e .lower) ≤ 20000 + e .lower
   pub fits : e .upper < 2 ^ 32
 
--- a probit in thousandths: the same, and upper - lower is at most 2
+-- a probit in thousandths: upper - lower is at most 2
 pub record ProbitEnds (x : Formula) (p : Probit) : Type 0 where
-  pub holds : Holds (millis (p .lower) (p .upper)) x
-  pub meet : AnyTwoMeet x
-  pub closed : Thousandth (p .lower) (p .upper)
+  pub value : ExactBetween 1000 x (p .lower) (p .upper)
+  pub closed : wholeZ (p .upper) ⊟ wholeZ (p .lower) ⊑ wholeZ (pos 2)
+  pub lower-fits : mag (p .lower) < 2 ^ 31
+  pub upper-fits : mag (p .upper) < 2 ^ 31
 
 -- the lower damage is read at the lower end of the probit, the upper at the upper end
 unfoldable pub reading : Probit → Ends

@@ -1,4 +1,4 @@
 pub mod Answer
 pub mod KnownCases
-pub mod Steps
+pub mod Entering
 pub mod laws

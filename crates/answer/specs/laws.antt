@@ -1,2 +1,3 @@
+pub mod Between
 pub mod Known
 pub mod Entries

@@ -3,7 +3,7 @@ ghost use mathlib.Core.Path.{_≡_};
 ghost use Rattle.guidance.specs.Cases.{Accepted};
 ghost use Rattle.guidance.specs.Waves.{standardAir};
 ghost use Rattle.answer.specs.Answer.{reading, readings, Wrote, FromFrame, FromLine};
-ghost use Rattle.answer.specs.Steps.{FiguresOf, Due, Enterable, Entered};
+ghost use Rattle.answer.specs.Entering.{FiguresOf, Due, Enterable, Entered};
 use frame::Verdict;
 use guidance::Case;
 use layout::Damages;

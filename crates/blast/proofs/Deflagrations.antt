@@ -1,8 +1,9 @@
--- The deflagration figures, the smaller of two, and ΔP and I from the reduced figures. Assumes nothing.
+-- The deflagration figures, and the smaller of two. Assumes nothing.
 use Prim.Native.Nat.{ℕ, _≤_, _<_}
-use mathlib.Core.Path.{_≡_, sym, subst⁻¹, ap, _∙_}
-use mathlib.Core.Bool.{true, false}
+use mathlib.Core.Path.{_≡_, sym, subst, subst⁻¹, ap, _∙_}
+use mathlib.Core.Bool.{true, false, cond}
 use native.Mathlib.Omega.{arith}
+use native.Mathlib.Nat.{le-refl}
 use borrow.Author.Tests.{lt-ltb, le-ltb}
 use Rattle.exact.specs.Fraction.{ofRatio}
 use Rattle.exact.specs.Formula.{Formula, least}
@@ -14,14 +15,18 @@ use Rattle.guidance.specs.declared.Case.{Case}
 use Rattle.guidance.specs.declared.Cloud.{Cloud}
 use Rattle.guidance.specs.Clouds.{rangeOf, deflagrates}
 use Rattle.guidance.specs.Distances.{nearer, cube034}
-use Rattle.guidance.specs.Waves.{hundredths, thousandths, frontSpeed, machNumber, expansion, deflagrationDistance, deflagrationPressure, deflagrationImpulse, detonationPressure, detonationImpulse, reducedPressure, reducedImpulse}
+use Rattle.guidance.specs.Waves.{hundredths, thousandths, frontSpeed, machNumber, expansion, deflagrationDistance, deflagrationPressure, deflagrationImpulse}
 use Rattle.guidance.specs.Cases.{Fields}
-use Rattle.guidance.specs.Words.{CloudOf}
-use Rattle.waves.specs.Ends.{lower-coarser, upper-coarser, constant-lower, constant-upper}
+use Rattle.guidance.specs.CloudWords.{CloudOf}
+use Rattle.waves.specs.EndBounds.{lower-coarser, upper-coarser, constant-lower, constant-upper}
 use Rattle.waves.specs.Fronts.{Mass, Front, frontSpeedOf, front-speed-of}
-use Rattle.waves.specs.Deflagration.{Mach, Expansion, expansion-of, Deflagrating, DeflagrationPressure, DeflagrationImpulse}
+use Rattle.waves.specs.Deflagration.{Mach, expansion-of, Deflagrating, DeflagrationPressure, DeflagrationImpulse}
+use Rattle.blast.specs.declared.Flame.{Flame}
+use Rattle.blast.specs.declared.Deflagration.{Deflagration}
+use Rattle.blast.specs.declared.Deflagration.the-variants as variants
+use Rattle.blast.specs.Windows.{Window, distanceWindow, deflagrationPressureWindow, deflagrationImpulseWindow, smallerWindow}
 use Rattle.blast.specs.Promises.{Enclosure}
-use Rattle.blast.specs.Steps.{Seen, MachSpan, DeflagrationSpan}
+use Rattle.blast.specs.Intermediates.{Seen, MachSpan, DeflagrationSpan, FlameOf, BurningAt, Deflagrated}
 use Rattle.blast.specs.Distance.{from-034}
 use Rattle.blast.proofs.Choices.{looser, chosen, otherwise, constant-enclosure}
 use Rattle.blast.proofs.Detonations.{distance-from}
@@ -55,7 +60,7 @@ module _ {c : Case} {k : Cloud} {air : ℕ} {x : Span} (s : Seen c k air x) wher
   unfolding deflagrationDistance
   nearest-distance i e =
       record {
-        encloses = λ n l. chosen (nearer cube034 air c) _ _ e (constant-enclosure (hundredths 34) i) .encloses n l;
+        encloses = λ n l. chosen {w = distanceWindow} (nearer cube034 air c) _ _ e (constant-enclosure (hundredths 34) i (omega arith)) .encloses n l;
         width = wider (omega arith) (i .width);
         distance =
             record {
@@ -75,11 +80,18 @@ module _ {c : Case} {k : Cloud} {air : ℕ} {x : Span} (s : Seen c k air x) wher
         distance = distance-from s (thousandths 339) 33 100 from-034 e (omega arith);
       }
 
+-- A deflagration by its variant
+
+pub told-burning : {air : ℕ} {c : Case} {d : Deflagration} {f : Flame} → Deflagrated air c d → d ≡ variants.Burning f → BurningAt air c f
+told-burning {air} {c} h e = subst (λ (i : Deflagration). Deflagrated air c i) e h
+
 -- Px and Ix of a deflagration
 
-module _ {air : ℕ} {c : Case} {w g y : Span} (m : MachSpan c w) (e : Expansion (c .state) g) (d : DeflagrationSpan air c y) where
-  pub deflagrating : Deflagrating w g y
+module _ {air : ℕ} {c : Case} {f : Flame} (h : FlameOf air c f) where
+  pub deflagrating : Deflagrating (f .mach) (f .expansion) (f .distance)
   deflagrating =
+      let m = h .mach in
+      let e = h .expansion in
       record {
         mach = m .normal;
         mach-narrow = wider (omega arith) (m .width);
@@ -88,43 +100,43 @@ module _ {air : ℕ} {c : Case} {w g y : Span} (m : MachSpan c w) (e : Expansion
         expansion = e .normal;
         expansion-narrow = e .width;
         exponent = e .exponent;
-        distance = d .distance;
+        distance = h .distance .distance;
       }
 
-  expands : (n : ℕ) → Encloses g (expansion c) n
-  expands n = subst⁻¹ (λ (x : Formula). Encloses g x n) (expansion-of c) (e .encloses n)
+  expands : (n : ℕ) → Encloses (f .expansion) (expansion c) n
+  expands n = subst⁻¹ (λ (x : Formula). Encloses (f .expansion) x n) (expansion-of c) (h .expansion .encloses n)
 
-  pub deflagration-pressure : {r : Span} → DeflagrationPressure w g y r → Enclosure (deflagrationPressure air c) 813 968 997 r
+  pub deflagration-pressure : {r : Span} → DeflagrationPressure (f .mach) (f .expansion) (f .distance) r → Enclosure (deflagrationPressure air c) deflagrationPressureWindow r
   unfolding deflagrationPressure
   deflagration-pressure p =
       record {
         normal = p .normal;
-        encloses = λ n l. p .encloses (machNumber c) (expansion c) (deflagrationDistance air c) n (m .encloses n l) (expands n) (d .encloses n l);
-        width = wider (omega arith) (p .width 44 55 (m .width) (d .width));
+        encloses = λ n l. p .encloses (machNumber c) (expansion c) (deflagrationDistance air c) n (h .mach .encloses n l) (expands n) (h .distance .encloses n l);
+        width = wider (omega arith) (p .width _ _ (h .mach .width) (h .distance .width));
         least = p .least;
         most = p .most;
       }
 
-  pub deflagration-impulse : {r : Span} → DeflagrationImpulse w g y r → Enclosure (deflagrationImpulse air c) 1455 970 994 r
+  pub deflagration-impulse : {r : Span} → DeflagrationImpulse (f .mach) (f .expansion) (f .distance) r → Enclosure (deflagrationImpulse air c) deflagrationImpulseWindow r
   unfolding deflagrationImpulse
   deflagration-impulse p =
       record {
         normal = p .normal;
-        encloses = λ n l. p .encloses (machNumber c) (expansion c) (deflagrationDistance air c) n (m .encloses n l) (expands n) (d .encloses n l);
-        width = wider (omega arith) (p .width 44 55 (m .width) (d .width));
+        encloses = λ n l. p .encloses (machNumber c) (expansion c) (deflagrationDistance air c) n (h .mach .encloses n l) (expands n) (h .distance .encloses n l);
+        width = wider (omega arith) (p .width _ _ (h .mach .width) (h .distance .width));
         least = p .least;
         most = p .most;
       }
 
 -- The smaller of two
 
-pub smaller-enclosure : {x y : Formula} {C D l u m v : ℕ} {a b r : Span} → D ≤ C → Enclosure x C l u a → Enclosure y D m v b → Smaller a b r → l ≤ m
-    → Enclosure (least x y) C l v r
-smaller-enclosure {C = C} d h k s o =
+pub smaller-enclosure : {x y : Formula} {v w : Window} {a b r : Span} → w .width ≤ v .width → v .least ≤ w .least → Enclosure x v a → Enclosure y w b → Smaller a b r
+    → Enclosure (least x y) (smallerWindow v w) r
+smaller-enclosure {v = v} d o h k s =
     record {
       normal = s .normal;
       encloses = λ n i. smaller-encloses s (h .encloses n i) (k .encloses n i);
-      width = s .width C (h .width) (wider d (k .width));
+      width = s .width (v .width) (h .width) (wider d (k .width));
       least = omega (arith, s .exponent, h .least, k .least, o);
       most = omega (arith, s .exponent, k .most);
     }
@@ -138,21 +150,11 @@ module _ {c : Case} {k : Cloud} (h : CloudOf c k) where
   pub burns : 2 ≤ k .range → deflagrates c ≡ true
   burns l = lt-ltb 1 (rangeOf c) (omega (arith, h .range, l))
 
-module _ (air : ℕ) (c : Case) where
-  pub detonation-only : {r : Span} → deflagrates c ≡ false → Enclosure (detonationPressure air c) 420 977 1000 r → Enclosure (reducedPressure air c) 813 968 1000 r
-  unfolding reducedPressure
-  detonation-only e h = otherwise (deflagrates c) _ _ e (looser (omega arith) (omega arith) (omega arith) h)
+-- One law for Px and Ix: where the case detonates, its detonation figure d alone; where it deflagrates, the smaller of f and d
 
-  pub smaller-pressure : {f d r : Span} → deflagrates c ≡ true → Enclosure (deflagrationPressure air c) 813 968 997 f → Enclosure (detonationPressure air c) 420 977 1000 d
-      → Smaller f d r → Enclosure (reducedPressure air c) 813 968 1000 r
-  unfolding reducedPressure
-  smaller-pressure e h k s = chosen (deflagrates c) _ _ e (smaller-enclosure (omega arith) h k s (omega arith))
+module _ (c : Case) (f d : Formula) (v w : Window) (width : w .width ≤ v .width) (least-of : v .least ≤ w .least) {b : Span} (k : Enclosure d w b) where
+  pub detonation-alone : deflagrates c ≡ false → Enclosure (cond (deflagrates c) (least f d) d) (smallerWindow v w) b
+  detonation-alone e = otherwise (deflagrates c) _ _ e (looser (record { width = width; least = least-of; most = le-refl _ }) k)
 
-  pub detonation-impulse-only : {r : Span} → deflagrates c ≡ false → Enclosure (detonationImpulse air c) 180 979 998 r → Enclosure (reducedImpulse air c) 1455 970 998 r
-  unfolding reducedImpulse
-  detonation-impulse-only e h = otherwise (deflagrates c) _ _ e (looser (omega arith) (omega arith) (omega arith) h)
-
-  pub smaller-impulse : {f d r : Span} → deflagrates c ≡ true → Enclosure (deflagrationImpulse air c) 1455 970 994 f → Enclosure (detonationImpulse air c) 180 979 998 d
-      → Smaller f d r → Enclosure (reducedImpulse air c) 1455 970 998 r
-  unfolding reducedImpulse
-  smaller-impulse e h k s = chosen (deflagrates c) _ _ e (smaller-enclosure (omega arith) h k s (omega arith))
+  pub smaller-of-both : {a r : Span} → deflagrates c ≡ true → Enclosure f v a → Smaller a b r → Enclosure (cond (deflagrates c) (least f d) d) (smallerWindow v w) r
+  smaller-of-both e h s = chosen (deflagrates c) _ _ e (smaller-enclosure width least-of h k s)

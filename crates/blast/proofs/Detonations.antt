@@ -1,30 +1,32 @@
--- The detonation figures from those of their parts: near field, heterogeneous and gas. Assumes nothing.
+-- What the detonation formulas and the figures of a deflagration take, and the detonation figures. Assumes nothing.
 use Prim.Native.Nat.{ℕ, _*_, _≤_}
-use mathlib.Core.Path.{_≡_, subst⁻¹}
-use mathlib.Core.Bool.{Bool, true, false}
+use mathlib.Core.Path.{_≡_, subst⁻¹, subst}
+use mathlib.Core.Bool.{Bool, true, false, cond}
 use native.Mathlib.Omega.{arith}
 use lib.Dec.{eqb}
 use borrow.Author.Tests.{eq-eqb, ne-eqb}
 use Rattle.exact.specs.Fraction.{Ratio, whole, ofRatio}
 use Rattle.span.specs.declared.Span.{Span}
 use Rattle.span.specs.Spans.{Constant}
-use Rattle.span.specs.Enclosing.{wider}
+use Rattle.span.specs.Enclosing.{constant-encloses, wider}
 use Rattle.fixed.specs.declared.Log.{Log}
 use Rattle.enclosure.specs.Promises.{enough}
 use Rattle.guidance.specs.declared.Case.{Case}
 use Rattle.guidance.specs.declared.Cloud.{Cloud}
-use Rattle.guidance.specs.Choice.{pick}
 use Rattle.guidance.specs.Clouds.{heterogeneous}
 use Rattle.guidance.specs.Distances.{nearer, cube02, cube025}
-use Rattle.guidance.specs.Waves.{number, hundredths, thousandths, reducedDistance, nearField, aerosolPressure, aerosolImpulse, gasPressure, gasImpulse, detonationPressure, detonationImpulse}
-use Rattle.guidance.specs.Words.{Placed}
-use Rattle.waves.specs.Ends.{lower-coarser, upper-coarser, enclosed-lower, enclosed-upper, constant-lower, constant-upper}
+use Rattle.guidance.specs.Waves.{number, hundredths, thousandths, reducedDistance, nearField, aerosolImpulse, gasImpulse, detonationPressure, detonationImpulse}
+use Rattle.guidance.specs.CloudWords.{Placed}
+use Rattle.waves.specs.EndBounds.{lower-coarser, upper-coarser, enclosed-lower, enclosed-upper, constant-lower, constant-upper}
 use Rattle.waves.specs.Detonation.{Distance, AerosolPressure, AerosolImpulse}
-use Rattle.waves.specs.Gas.{Near, LogDistance, GasPressure, GasImpulse}
+use Rattle.waves.specs.Gas.{LogDistance, GasPressure, GasImpulse}
+use Rattle.blast.specs.declared.Detonation.{Detonation}
+use Rattle.blast.specs.declared.Detonation.the-variants as variants
+use Rattle.blast.specs.Windows.{detonationPressureWindow, detonationImpulseWindow}
 use Rattle.blast.specs.Promises.{Enclosure, Ready}
-use Rattle.blast.specs.Steps.{Seen, Far, Image, nearImpulse}
+use Rattle.blast.specs.Intermediates.{Seen, Detonated, NearField, HeterogeneousAt, GasAt, nearImpulse}
 use Rattle.blast.specs.Distance.{Threshold, distance-between, from-02, from-025}
-use Rattle.blast.proofs.Choices.{looser, chosen, otherwise, constant-enclosure, image-of}
+use Rattle.blast.proofs.Choices.{chosen, otherwise, constant-enclosure}
 
 pub placed : {c : Case} {k : Cloud} {air : ℕ} → Ready c k air → Placed c k air
 placed h = record { fields = h .accepted .fields; cloud = h .cloud; pressure = h .pressure }
@@ -44,103 +46,126 @@ module _ {c : Case} {k : Cloud} {air : ℕ} {x : Span} (s : Seen c k air x) wher
         far = lower-coarser (enclosed-lower l (thousandths 24100) i b) (omega arith) (omega arith);
       }
 
-  pub far : nearField air c ≡ false → Far x
-  unfolding nearField
-  far e = record { distance = go (heterogeneous c) e; width = s .distance .width }
-    where
-      go : (b : Bool) → pick b (nearer cube025 air c) (nearer cube02 air c) ≡ false → Distance 19 100 x
-      go true e = distance-from (thousandths 249) 19 100 from-025 e (omega arith)
-      go false e = distance-from (thousandths 199) 19 100 from-02 e (omega arith)
+  module _ (e : nearField air c ≡ false) where
+    pub away-distance : Distance 19 100 x
+    unfolding nearField
+    away-distance = go (heterogeneous c) e
+      where
+        go : (b : Bool) → cond b (nearer cube025 air c) (nearer cube02 air c) ≡ false → Distance 19 100 x
+        go true e = distance-from (thousandths 249) 19 100 from-025 e (omega arith)
+        go false e = distance-from (thousandths 199) 19 100 from-02 e (omega arith)
 
--- Px
+    pub log-distance : Distance 14 100 x
+    log-distance =
+        let d = away-distance in
+        record { normal = d .normal; narrow = d .narrow; near = upper-coarser (d .near) (omega arith) (omega arith); far = d .far }
 
-module _ {c : Case} {k : Cloud} {air : ℕ} {x : Span} (s : Seen c k air x) where
-  pub near-pressure : {q : Span} → Constant (ofRatio (whole 18)) 998 q → nearField air c ≡ true → Enclosure (detonationPressure air c) 420 977 1000 q
+    pub heterogeneous-at : c .state ≡ 1 → HeterogeneousAt air c x
+    heterogeneous-at t = record { away = e; state = t; distance = away-distance; value = s .distance }
+
+    pub gas-at : {l : Log} → (c .state ≡ 1 → ⊥) → LogDistance x l → GasAt air c l
+    gas-at t g =
+        record {
+          away = e;
+          state = t;
+          distance = g .near (away-distance .near);
+          encloses = λ n i. g .encloses _ n i (s .distance .encloses n i);
+          narrow = g .width 55 (s .distance .width) (omega arith);
+        }
+
+-- The formula, by the variant
+
+module _ {air : ℕ} {c : Case} {d : Detonation} where
+  pub told-near : {t : ℕ} → Detonated air c d → d ≡ variants.Near t → NearField air c t
+  told-near h e = subst (λ (i : Detonation). Detonated air c i) e h
+
+  pub told-heterogeneous : {x : Span} → Detonated air c d → d ≡ variants.Heterogeneous x → HeterogeneousAt air c x
+  told-heterogeneous h e = subst (λ (i : Detonation). Detonated air c i) e h
+
+  pub told-gas : {l : Log} → Detonated air c d → d ≡ variants.Gas l → GasAt air c l
+  told-gas h e = subst (λ (i : Detonation). Detonated air c i) e h
+
+-- The two figures in the near field
+
+module _ {air : ℕ} {c : Case} {state : ℕ} (f : NearField air c state) where
+  pub near-pressure : {q : Span} → Constant (ofRatio (whole 18)) 998 q → Enclosure (detonationPressure air c) detonationPressureWindow q
   unfolding detonationPressure
-  near-pressure i e = chosen (nearField air c) _ _ e (looser (omega arith) (omega arith) (omega arith) (constant-enclosure (whole 18) i))
+  near-pressure i = chosen (nearField air c) _ _ (f .near) (constant-enclosure (whole 18) i (omega arith))
 
-  module _ (e : nearField air c ≡ false) {r : Span} where
-    pub aerosol-pressure : c .state ≡ 1 → Image aerosolPressure 180 985 997 x r → Enclosure (detonationPressure air c) 420 977 1000 r
-    unfolding detonationPressure
-    aerosol-pressure t p =
-        otherwise (nearField air c) _ _ e
-        (chosen (heterogeneous c) _ _ (eq-eqb _ _ t) (looser (omega arith) (omega arith) (omega arith) (image-of (reducedDistance air c) p (s .distance))))
-
-    pub gas-pressure : (c .state ≡ 1 → ⊥) → Image gasPressure 420 977 1000 x r → Enclosure (detonationPressure air c) 420 977 1000 r
-    unfolding detonationPressure
-    gas-pressure t p =
-        otherwise (nearField air c) _ _ e (otherwise (heterogeneous c) _ _ (ne-eqb _ _ t) (image-of (reducedDistance air c) p (s .distance)))
-
--- Ix
-
-module _ {c : Case} {k : Cloud} {air : ℕ} {x : Span} (s : Seen c k air x) where
-  pub near-impulse : {r : Span} → nearField air c ≡ true → Enclosure (nearImpulse (c .state)) 180 979 998 r → Enclosure (detonationImpulse air c) 180 979 998 r
+  pub near-impulse : {r : Span} → Enclosure (nearImpulse state) detonationImpulseWindow r → Enclosure (detonationImpulse air c) detonationImpulseWindow r
   unfolding detonationImpulse nearImpulse
-  near-impulse {r} e p =
+  near-impulse {r} p =
       subst⁻¹
       (λ (b : Bool).
-      Enclosure (pick (heterogeneous c) (pick b (number (hundredths 16)) (aerosolImpulse (reducedDistance air c))) (gasImpulse (pick b (number (thousandths 142)) (reducedDistance air c))))
-      180 979 998 r)
-      e p
+      Enclosure (cond (heterogeneous c) (cond b (number (hundredths 16)) (aerosolImpulse (reducedDistance air c))) (gasImpulse (cond b (number (thousandths 142)) (reducedDistance air c))))
+      detonationImpulseWindow r)
+      (f .near)
+      (subst (λ (i : ℕ). Enclosure (nearImpulse i) detonationImpulseWindow r) (f .state) p)
 
-  pub aerosol-impulse : {r : Span} → nearField air c ≡ false → c .state ≡ 1 → Image aerosolImpulse 60 982 994 x r → Enclosure (detonationImpulse air c) 180 979 998 r
+-- of a heterogeneous cloud
+
+module _ {air : ℕ} {c : Case} {x r : Span} (h : HeterogeneousAt air c x) where
+  pub heterogeneous-pressure : AerosolPressure x r → Enclosure (detonationPressure air c) detonationPressureWindow r
+  unfolding detonationPressure
+  heterogeneous-pressure p =
+      otherwise (nearField air c) _ _ (h .away)
+      (chosen (heterogeneous c) _ _ (eq-eqb _ _ (h .state))
+      (record {
+        normal = p .normal;
+        encloses = λ n l. p .encloses _ n (h .value .encloses n l);
+        width = wider (omega arith) (p .width _ (h .value .width));
+        least = omega (arith, p .least);
+        most = omega (arith, p .most);
+      }))
+
+  pub heterogeneous-impulse : AerosolImpulse x r → Enclosure (detonationImpulse air c) detonationImpulseWindow r
   unfolding detonationImpulse
-  aerosol-impulse e t p =
-      chosen (heterogeneous c) _ _ (eq-eqb _ _ t)
-      (otherwise (nearField air c) _ _ e (looser (omega arith) (omega arith) (omega arith) (image-of (reducedDistance air c) p (s .distance))))
+  heterogeneous-impulse p =
+      chosen (heterogeneous c) _ _ (eq-eqb _ _ (h .state))
+      (otherwise (nearField air c) _ _ (h .away)
+      (record {
+        normal = p .normal;
+        encloses = λ n l. p .encloses _ n (h .value .encloses n l);
+        width = wider (omega arith) (p .width _ (h .value .width));
+        least = omega (arith, p .least);
+        most = omega (arith, p .most);
+      }))
 
-  pub gas-impulse : {r : Span} → nearField air c ≡ false → (c .state ≡ 1 → ⊥) → Image gasImpulse 180 979 998 x r → Enclosure (detonationImpulse air c) 180 979 998 r
+-- of a gas
+
+module _ {air : ℕ} {c : Case} {l : Log} {r : Span} (h : GasAt air c l) where
+  pub gas-pressure : GasPressure l r → Enclosure (detonationPressure air c) detonationPressureWindow r
+  unfolding detonationPressure
+  gas-pressure p =
+      otherwise (nearField air c) _ _ (h .away)
+      (otherwise (heterogeneous c) _ _ (ne-eqb _ _ (h .state))
+      (record {
+        normal = p .normal;
+        encloses = λ n i. p .encloses _ n i (h .encloses n i);
+        width = wider (omega arith) (p .width _ (h .narrow));
+        least = p .least;
+        most = p .most;
+      }))
+
+  pub gas-impulse : GasImpulse l r → Enclosure (detonationImpulse air c) detonationImpulseWindow r
   unfolding detonationImpulse
-  gas-impulse {r} e t p =
-      otherwise (heterogeneous c) _ _ (ne-eqb _ _ t)
-      (subst⁻¹ (λ (b : Bool). Enclosure (gasImpulse (pick b (number (thousandths 142)) (reducedDistance air c))) 180 979 998 r) e (image-of (reducedDistance air c) p (s .distance)))
-
--- The calls of waves
-
-module _ {x : Span} (h : Far x) where
-  pub aerosol-pressure-image : {r : Span} → AerosolPressure x r → Image aerosolPressure 180 985 997 x r
-  aerosol-pressure-image p =
-      record { normal = p .normal; encloses = λ f n l e. p .encloses f n e; width = wider (omega arith) (p .width 55 (h .width)); least = p .least; most = p .most }
-
-  pub aerosol-impulse-image : {r : Span} → AerosolImpulse x r → Image aerosolImpulse 60 982 994 x r
-  aerosol-impulse-image p =
-      record { normal = p .normal; encloses = λ f n l e. p .encloses f n e; width = wider (omega arith) (p .width 55 (h .width)); least = p .least; most = p .most }
-
-  pub wider-distance : Distance 14 100 x
-  wider-distance =
-      let d = h .distance in
-      record { normal = d .normal; narrow = d .narrow; near = upper-coarser (d .near) (omega arith) (omega arith); far = d .far }
-
-  module _ {l : Log} (g : LogDistance x l) where
-    pub near-log : Near l
-    near-log = g .near (h .distance .near)
-
-    pub gas-pressure-image : {r : Span} → GasPressure l r → Image gasPressure 420 977 1000 x r
-    gas-pressure-image p =
-        record {
-          normal = p .normal;
-          encloses = λ f n i e. p .encloses f n i (g .encloses f n i e);
-          width = wider (omega arith) (p .width 73 (g .width 55 (h .width) (omega arith)));
-          least = p .least;
-          most = p .most;
-        }
-
-    pub gas-impulse-image : {r : Span} → GasImpulse l r → Image gasImpulse 180 979 998 x r
-    gas-impulse-image p =
-        record {
-          normal = p .normal;
-          encloses = λ f n i e. p .encloses f n i (g .encloses f n i e);
-          width = wider (omega arith) (p .width 73 (g .width 55 (h .width) (omega arith)));
-          least = p .least;
-          most = p .most;
-        }
+  gas-impulse p =
+      otherwise (heterogeneous c) _ _ (ne-eqb _ _ (h .state))
+      (subst⁻¹ (λ (b : Bool). Enclosure (gasImpulse (cond b (number (thousandths 142)) (reducedDistance air c))) detonationImpulseWindow r) (h .away)
+      (record {
+        normal = p .normal;
+        encloses = λ n i. p .encloses _ n i (h .encloses n i);
+        width = wider (omega arith) (p .width _ (h .narrow));
+        least = p .least;
+        most = p .most;
+      }))
 
 -- Ix of the near field: 0.16, and that of a gas at 0.142
 
-pub near-aerosol-result : {state : ℕ} {q : Span} → Constant (ofRatio (hundredths 16)) 991 q → state ≡ 1 → Enclosure (nearImpulse state) 180 979 998 q
+pub near-aerosol-result : {state : ℕ} {q : Span} → Constant (ofRatio (hundredths 16)) 991 q → state ≡ 1 → Enclosure (nearImpulse state) detonationImpulseWindow q
 unfolding nearImpulse
 near-aerosol-result {state} i t =
-    chosen (eqb state 1) _ _ (eq-eqb _ _ t) (looser (omega arith) (omega arith) (omega arith) (constant-enclosure (hundredths 16) i))
+    chosen (eqb state 1) _ _ (eq-eqb _ _ t) (constant-enclosure (hundredths 16) i (omega arith))
 
 module _ {q : Span} (i : Constant (ofRatio (thousandths 142)) 991 q) where
   pub near-gas-distance : Distance 14 100 q
@@ -152,13 +177,13 @@ module _ {q : Span} (i : Constant (ofRatio (thousandths 142)) 991 q) where
         far = lower-coarser (constant-lower (thousandths 142) i) (omega arith) (omega arith);
       }
 
-  pub near-gas-result : {state : ℕ} {l : Log} {r : Span} → (state ≡ 1 → ⊥) → LogDistance q l → GasImpulse l r → Enclosure (nearImpulse state) 180 979 998 r
+  pub near-gas-result : {state : ℕ} {l : Log} {r : Span} → (state ≡ 1 → ⊥) → LogDistance q l → GasImpulse l r → Enclosure (nearImpulse state) detonationImpulseWindow r
   unfolding nearImpulse
   near-gas-result {state} t g p =
       otherwise (eqb state 1) _ _ (ne-eqb _ _ t)
       (record {
         normal = p .normal;
-        encloses = λ n h. p .encloses _ n h (g .encloses _ n h (constant-enclosure (thousandths 142) i .encloses n h));
+        encloses = λ n h. p .encloses _ n h (g .encloses _ n h (constant-encloses i n));
         width = wider (omega arith) (p .width 19 (g .width 1 (i .width) (omega arith)));
         least = p .least;
         most = p .most;

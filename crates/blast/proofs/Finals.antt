@@ -11,15 +11,16 @@ use Rattle.guidance.specs.declared.Case.{Case}
 use Rattle.guidance.specs.declared.Cloud.{Cloud}
 use Rattle.guidance.specs.Clouds.{energy}
 use Rattle.guidance.specs.Waves.{number, raised, third, thousandths, reducedPressure, reducedImpulse, overpressure, impulse}
-use Rattle.waves.specs.Ends.{LowerAtMost, UpperAtLeast, lower-coarser, normal-lower, constant-upper, product-lower, quotient-lower, enclosed-lower, enclosed-upper, exponent-most-of, exponent-least-of}
+use Rattle.waves.specs.EndBounds.{LowerAtMost, UpperAtLeast, lower-coarser, normal-lower, constant-upper, product-lower, quotient-lower, enclosed-lower, enclosed-upper, exponent-most-of, exponent-least-of}
+use Rattle.blast.specs.Windows.{reducedPressureWindow, reducedImpulseWindow}
 use Rattle.blast.specs.Promises.{Enclosure, Ready, PressureSpan, ImpulseSpan}
-use Rattle.blast.specs.Steps.{EnergySpan, Rootable, CubeRoot, AirPower}
-use Rattle.blast.specs.Windows.{root-between}
+use Rattle.blast.specs.Intermediates.{EnergySpan, Rootable, CubeRoot, AirPower}
+use Rattle.blast.specs.PowerBounds.{root-between}
 use Rattle.blast.proofs.Reduced.{air-encloses}
 
 -- ΔP = Px·P0
 
-module _ {c : Case} {k : Cloud} {air : ℕ} {x p : Span} (h : Ready c k air) (r : Enclosure (reducedPressure air c) 813 968 1000 x) (w : Whole air p) where
+module _ {c : Case} {k : Cloud} {air : ℕ} {x p : Span} (h : Ready c k air) (r : Enclosure (reducedPressure air c) reducedPressureWindow x) (w : Whole air p) where
   air-least : 1009 ≤ p .e
   air-least = w .least 15 (omega (arith, h .pressure .least))
 
@@ -51,7 +52,7 @@ module _ {c : Case} {k : Cloud} {air : ℕ} {x p : Span} (h : Ready c k air) (r 
 
 -- I = Ix·P0^(2/3)·E^(1/3)/C0
 
-module _ {c : Case} {k : Cloud} {air : ℕ} {i a : Span} (h : Ready c k air) (r : Enclosure (reducedImpulse air c) 1455 970 998 i) (p : AirPower air a) where
+module _ {c : Case} {k : Cloud} {air : ℕ} {i a : Span} (h : Ready c k air) (r : Enclosure (reducedImpulse air c) reducedImpulseWindow i) (p : AirPower air a) where
   pub share-factors : Factors i a
   share-factors =
       let q = p .power in

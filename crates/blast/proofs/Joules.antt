@@ -3,21 +3,22 @@ use Prim.Native.Nat.{ℕ, _^_, _≤_, _<_}
 use mathlib.Core.Path.{_≡_, subst}
 use mathlib.Core.Bool.{Bool, true, false}
 use native.Mathlib.Omega.{arith}
-use Rattle.exact.specs.Fraction.{Ratio, whole, _⊗_, ofRatio}
-use Rattle.exact.specs.Bracket.{Bracket, _∈_}
-use Rattle.exact.specs.laws.Ratio.{_≈_, to≼, from≼}
+use Rattle.exact.specs.Fraction.{Ratio, _≈_, whole, _⊗_, ofRatio}
+use Rattle.exact.specs.Bracket.{Bracket}
+use Rattle.exact.specs.laws.Ratio.{to≼, from≼}
 use Rattle.exact.specs.laws.EndsMeet.{ofRatio-mono}
 use Rattle.exact.specs.laws.Points.{signed-product, product-signed}
-use Rattle.exact.specs.laws.Steps.{const-inside}
+use Rattle.exact.specs.laws.Inclusion.{const-inside}
+use Rattle.exact.specs.Holding.{_∈_}
 use Rattle.span.specs.declared.Span.{Span}
 use Rattle.span.specs.Spans.{hull, fraction, FractionOf, Constant, Factors, Product}
 use Rattle.span.specs.Enclosing.{Encloses, wider}
 use Rattle.span.specs.Bounds.{same-in}
 use Rattle.guidance.specs.declared.Cloud.{Cloud}
 use Rattle.guidance.specs.Clouds.{over, energy}
-use Rattle.guidance.specs.Words.{reduction}
+use Rattle.guidance.specs.CloudWords.{reduction}
 use Rattle.guidance.specs.Waves.{number}
-use Rattle.blast.specs.Steps.{Worded, EnergySpan}
+use Rattle.blast.specs.Intermediates.{Worded, EnergySpan}
 
 -- a fraction of the same value
 pub value-in : {x y : Ratio} {K : Bracket} → x ≈ y → ofRatio y ∈ K → ofRatio x ∈ K

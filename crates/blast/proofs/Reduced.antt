@@ -10,9 +10,10 @@ use Rattle.guidance.specs.declared.Cloud.{Cloud}
 use Rattle.guidance.specs.Clouds.{energy}
 use Rattle.guidance.specs.Distances.{metres}
 use Rattle.guidance.specs.Waves.{number, reducedDistance}
-use Rattle.guidance.specs.Words.{CloudOf}
+use Rattle.guidance.specs.CloudWords.{CloudOf}
+use Rattle.blast.specs.Windows.{energyWindow, distanceWindow}
 use Rattle.blast.specs.Promises.{Enclosure, Ready}
-use Rattle.blast.specs.Steps.{Worded, EnergySpan, Rootable, CubeRoot}
+use Rattle.blast.specs.Intermediates.{Worded, EnergySpan, Rootable, CubeRoot}
 use Rattle.blast.proofs.Joules.{number-encloses}
 
 pub air-encloses : {air : ℕ} {p : Span} → Whole air p → (n : ℕ) → Encloses p (number (whole air)) n
@@ -27,7 +28,7 @@ pub worded : {c : Case} {k : Cloud} → CloudOf c k → Worded k
 worded h = record { joules = h .joules; parts = h .parts; parts-most = h .parts-most }
 
 module _ {c : Case} {k : Cloud} {air : ℕ} {e p : Span} (h : Ready c k air) (en : EnergySpan k e) (w : Whole air p) where
-  joules : Enclosure (number (energy c)) 11 977 1060 e
+  joules : Enclosure (number (energy c)) energyWindow e
   joules = en .energy c (h .cloud)
 
   pub air-least : 1009 ≤ p .e
@@ -79,7 +80,7 @@ module _ {c : Case} {k : Cloud} {air : ℕ} {e p : Span} (h : Ready c k air) (en
             most = omega (arith, metres-most);
           }
 
-      pub distance-result : {x : Span} → Quotient r t x → Enclosure (reducedDistance air c) 55 961 1036 x
+      pub distance-result : {x : Span} → Quotient r t x → Enclosure (reducedDistance air c) distanceWindow x
       unfolding reducedDistance
       distance-result v =
           record {

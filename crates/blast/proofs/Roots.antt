@@ -11,10 +11,10 @@ use Rattle.enclosure.specs.Promises.{enough, Powerable, SixthPower}
 use Rattle.enclosure.specs.PowerWindows.{PowerIn, power-enclosed, power-narrow}
 use Rattle.guidance.specs.Waves.{number, raised, third, twoThirds}
 use Rattle.guidance.specs.Cases.{Air}
-use Rattle.waves.specs.Ends.{LowerAtMost, UpperAtLeast, enclosed-lower, enclosed-upper, exponent-most-of}
-use Rattle.blast.specs.Windows.{air-reached, air-between}
+use Rattle.waves.specs.EndBounds.{LowerAtMost, UpperAtLeast, enclosed-lower, enclosed-upper, exponent-most-of}
+use Rattle.blast.specs.PowerBounds.{air-reached, air-between}
 use Rattle.blast.specs.Exponents.{exponent-from}
-use Rattle.blast.specs.Steps.{Rootable, CubeRoot, AirPower}
+use Rattle.blast.specs.Intermediates.{Rootable, CubeRoot, AirPower}
 
 -- Cube roots
 

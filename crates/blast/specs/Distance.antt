@@ -5,18 +5,17 @@ use mathlib.Core.Path.{_≡_}
 use mathlib.Core.Bool.{false}
 use mathlib.Core.Option.{some}
 use native.Mathlib.Omega.{arith}
-use Rattle.exact.specs.Fraction.{Ratio, _≼_, Above0, whole, _⊕_, _⊗_, _⊖_, recip, power, _⊑_, Positive, ofRatio, inverse}
+use Rattle.exact.specs.Fraction.{Ratio, _≼_, _≈_, Above0, whole, _⊕_, _⊗_, _⊖_, recip, power, ofRatio}
 use Rattle.exact.specs.Series.{oneOver, third}
 use Rattle.exact.specs.Formula.{div, bracketAt, powerOf}
-use Rattle.exact.specs.laws.Ratio.{_≈_, ≼-refl, ≼-trans, to≼, from≼, ⊗-mono}
+use Rattle.exact.specs.laws.Ratio.{≼-refl, ≼-trans, to≼, from≼, ⊗-mono}
 use Rattle.exact.specs.laws.Width.{half}
 use Rattle.exact.specs.laws.ExpSpread.{slack}
 use Rattle.exact.specs.laws.EndsMeet.{ofRatio-mono}
 use Rattle.exact.specs.laws.Containment.{Inside}
-use Rattle.exact.specs.laws.Steps.{div-inside}
-use Rattle.exact.specs.laws.Points.{point, pair, point-inside, signed-above, signed-product, product-signed}
+use Rattle.exact.specs.laws.Inclusion.{div-inside}
+use Rattle.exact.specs.laws.Points.{point, pair, point-inside, signed-above, signed-product, product-signed, positive-of, inverse-least, inverse-most}
 use Rattle.exact.specs.laws.Quotient.{cube-root-quotient}
-use Rattle.enclosure.specs.PowerWindows.{positive-of}
 use Rattle.guidance.specs.declared.Case.{Case}
 use Rattle.guidance.specs.Clouds.{over}
 use Rattle.guidance.specs.Distances.{metres, nearer, cube02, cube025, cube034, cube24}
@@ -26,14 +25,6 @@ use Rattle.guidance.specs.laws.Domain.{heated, air-above, perAir, perAir-above,
 use Rattle.exact.specs.laws.Replacing.{Within, const-within, within-refl, mul-within, div-within, ln-within, exp-within, within-inside}
 
 -- E/P0 is a fraction
-
-inverse-least : (x : Ratio) (h : Above0 x) (q : Positive (ofRatio x)) → ofRatio (recip x h) ⊑ inverse (ofRatio x) q
-unfolding ofRatio recip inverse
-inverse-least x h q = let e : x .num - 0 ≡ x .num = omega arith in record { cross = rw e (omega arith) }
-
-inverse-most : (x : Ratio) (h : Above0 x) (q : Positive (ofRatio x)) → inverse (ofRatio x) q ⊑ ofRatio (recip x h)
-unfolding ofRatio recip inverse
-inverse-most x h q = let e : x .num - 0 ≡ x .num = omega arith in record { cross = rw e (omega arith) }
 
 -- x/y as one constant
 ratio-within : (x y : Ratio) (h : Above0 y) (n : ℕ) → Within (div (number x) (number y)) (number (x ⊗ recip y h)) n

@@ -7,25 +7,25 @@ use Rattle.exact.specs.laws.Meeting.{any-two-meet}
 use Rattle.span.specs.declared.Span.{Span}
 use Rattle.span.specs.Spans.{unit}
 use Rattle.span.specs.Enclosing.{wider}
-use Rattle.span.specs.Wholes.{wholes-hold, wholes-finer, finer-closed}
+use Rattle.span.specs.Wholes.{wholes-hold, wholes-finer}
 use Rattle.enclosure.specs.Promises.{enough}
 use Rattle.guidance.specs.declared.Case.{Case}
 use Rattle.guidance.specs.Waves.{overpressure, impulse}
 use Rattle.layout.specs.declared.Ends.{Ends}
-use Rattle.waves.specs.Ends.{LowerAtMost, value-most-of}
+use Rattle.waves.specs.EndBounds.{LowerAtMost, value-most-of}
+use Rattle.blast.specs.Windows.{Window}
 use Rattle.blast.specs.Promises.{Enclosure, PressureSpan, ImpulseSpan, Ended, Roundable, Rounded}
 
 below-top : (u t H U : ℕ) → H ≤ t * U → u * U < H + U → u < t + 1
 below-top u t H U h k = lt-of-mul-lt-mul-right U (omega arith)
 
-module _ {x : Formula} {D l u n : ℕ} {s : Span} {e : Ends} (top : ℕ) (v : Enclosure x D l u s) (f : Rounded s e) where
-  ended : D ≤ 2 ^ 13 → LowerAtMost s n 1 → (t : ℕ) → 512 * n ≤ 511 * t * 1 → t < top → Ended x top e
+module _ {x : Formula} {w : Window} {n : ℕ} {s : Span} {e : Ends} (top : ℕ) (v : Enclosure x w s) (f : Rounded s e) where
+  ended : w .width ≤ 2 ^ 13 → LowerAtMost s n 1 → (t : ℕ) → 512 * n ≤ 511 * t * 1 → t < top → Ended x top e
   ended d m t i j =
       let narrow = wholes-finer (v .normal) (f .lower) (f .upper) (v .width) d in
       record {
         holds = wholes-hold {n = enough} (omega arith) (f .lower) (f .upper) (v .encloses enough (omega arith));
         meet = any-two-meet x;
-        closed = finer-closed narrow;
         finer = narrow;
         small =
             let high = value-most-of (wider (omega (arith, d)) (v .width)) m (omega arith) t i in

@@ -1,6 +1,7 @@
 pub mod Promises
-pub mod Steps
+pub mod Intermediates
 pub mod Distance
 pub mod Windows
+pub mod PowerBounds
 pub mod Exponents
 pub mod Ending

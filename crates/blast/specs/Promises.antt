@@ -2,28 +2,30 @@
 -- that.
 use Prim.Native.Nat.{ℕ, _≤_, _<_}
 use Rattle.exact.specs.Formula.{Formula}
-use Rattle.exact.specs.Exact.{Holds, AnyTwoMeet}
+use Rattle.exact.specs.Exact.{AnyTwoMeet}
+use Rattle.exact.specs.Holding.{Holds}
 use Rattle.span.specs.declared.Span.{Span}
 use Rattle.span.specs.Spans.{Normal, Width, Floor, Ceiling}
-use Rattle.span.specs.Wholes.{wholes, Closed, Finer}
+use Rattle.span.specs.Wholes.{wholes, Finer}
 use Rattle.span.specs.Enclosing.{Encloses}
 use Rattle.enclosure.specs.Promises.{enough}
-use Rattle.waves.specs.Ends.{LowerAtMost}
+use Rattle.waves.specs.EndBounds.{LowerAtMost}
 use Rattle.guidance.specs.declared.Case.{Case}
 use Rattle.guidance.specs.declared.Cloud.{Cloud}
-use Rattle.guidance.specs.Words.{CloudOf}
+use Rattle.guidance.specs.CloudWords.{CloudOf}
 use Rattle.guidance.specs.Waves.{overpressure, impulse}
 use Rattle.guidance.specs.Cases.{Air, Accepted}
 use Rattle.blast.specs.declared.Wave.{Wave}
+use Rattle.blast.specs.Windows.{Window, pressureWindow, impulseWindow}
 use Rattle.layout.specs.declared.Ends.{Ends}
 
--- s contains the N-th bracket of x for every N from `enough` on, is no wider than D in 2^-30, and its exponent lies from l to u
-pub record Enclosure (x : Formula) (D l u : ℕ) (s : Span) : Type 0 where
+-- s contains the N-th bracket of x for every N from `enough` on, and lies in the window w
+pub record Enclosure (x : Formula) (w : Window) (s : Span) : Type 0 where
   pub normal : Normal s
   pub encloses : (n : ℕ) → enough ≤ n → Encloses s x n
-  pub width : Width s D
-  pub least : l ≤ s .e
-  pub most : s .e ≤ u
+  pub width : Width s (w .width)
+  pub least : w .least ≤ s .e
+  pub most : s .e ≤ w .most
 
 -- an accepted case with its cloud, in air of a pressure that is covered
 pub record Ready (c : Case) (k : Cloud) (air : ℕ) : Type 0 where
@@ -31,25 +33,24 @@ pub record Ready (c : Case) (k : Cloud) (air : ℕ) : Type 0 where
   pub cloud : CloudOf c k
   pub pressure : Air air
 
--- ΔP: within 0.8 millionths of itself, from 2^-11 to 14,080,000 Pa
+-- ΔP, up to 14,080,000 Pa
 pub record PressureSpan (air : ℕ) (c : Case) (s : Span) : Type 0 where
-  pub value : Enclosure (overpressure air c) 817 983 1018 s
+  pub value : Enclosure (overpressure air c) pressureWindow s
   pub lower : LowerAtMost s 14080000 1
 
--- I: within 1.5 millionths of itself, from 2^-31 to 14,610,071 Pa·s
+-- I, up to 14,610,071 Pa·s
 pub record ImpulseSpan (air : ℕ) (c : Case) (s : Span) : Type 0 where
-  pub value : Enclosure (impulse air c) 1550 963 1018 s
+  pub value : Enclosure (impulse air c) impulseWindow s
   pub lower : LowerAtMost s 14610071 1
 
 pub record WaveOf (air : ℕ) (c : Case) (w : Wave) : Type 0 where
   pub pressure : PressureSpan air c (w .pressure)
   pub impulse : ImpulseSpan air c (w .impulse)
 
--- Whole numbers around the value of x, closed by the width rule and by the finer one, below `top`
+-- whole numbers around the value of x, close together and below `top`
 pub record Ended (x : Formula) (top : ℕ) (e : Ends) : Type 0 where
   pub holds : Holds (wholes (e .lower) (e .upper)) x
   pub meet : AnyTwoMeet x
-  pub closed : Closed (e .lower) (e .upper)
   pub finer : Finer (e .lower) (e .upper)
   pub small : e .upper < top
 

@@ -1,17 +1,18 @@
 // Overpressure and impulse of an accepted case: intervals around the exact values, and whole numbers around these.
 // Branches are taken by the exact tests of `guidance` alone; each function follows its formula operation by operation.
 ghost use Prim.Native.Nat.{_^_, _<_};
-ghost use Rattle.span.specs.Spans.{Smaller};
 ghost use Rattle.guidance.specs.Cases.{Air, Accepted};
-ghost use Rattle.guidance.specs.Waves.{reducedDistance, gasPressure, gasImpulse, aerosolPressure, aerosolImpulse, detonationPressure, detonationImpulse, deflagrationPressure, deflagrationImpulse, reducedPressure, reducedImpulse, overpressure, impulse};
+ghost use Rattle.guidance.specs.Waves.{reducedDistance, detonationPressure, detonationImpulse, reducedPressure, reducedImpulse, overpressure, impulse};
+ghost use Rattle.blast.specs.Windows.{distanceWindow, detonationPressureWindow, detonationImpulseWindow, reducedPressureWindow, reducedImpulseWindow};
 ghost use Rattle.blast.specs.Promises.{Enclosure, Ready, PressureSpan, ImpulseSpan, WaveOf, Ended, Roundable, Rounded};
-ghost use Rattle.blast.specs.Steps.{Seen, Far, Image, Waves, Worded, EnergySpan, Rootable, CubeRoot, AirPower, MachSpan, DeflagrationSpan, Reduced, nearImpulse};
+ghost use Rattle.blast.specs.Intermediates.{Seen, Detonated, FlameOf, Deflagrated, CommonOf, Worded, EnergySpan, Rootable, CubeRoot, AirPower, MachSpan, DeflagrationSpan, nearImpulse};
+use fixed::Log;
 use guidance::Case;
 use guidance::Cloud;
 use layout::Ends;
 use span::Span;
 
-// ΔP and I, or Px and Ix, as intervals.
+// ΔP and I as intervals.
 pub struct Wave {
     pub pressure: Span,
     pub impulse: Span,
@@ -95,7 +96,7 @@ fn air_power(air: u64) -> Span
 // Rx = r/(E/P0)^(1/3), at any distance.
 fn reduced_distance(c: Case, k: Cloud, air: u64) -> Span
     requires { ⌜ Ready c k air ⌝ }
-    ensures { λ r. ⌜ Enclosure (reducedDistance air c) 55 961 1036 r ⌝ }
+    ensures { λ r. ⌜ Enclosure (reducedDistance air c) distanceWindow r ⌝ }
 {
     let joules = energy(k);
     let pascals = span::whole(air);
@@ -105,47 +106,64 @@ fn reduced_distance(c: Case, k: Cloud, air: u64) -> Span
     span::quo(metres, root)
 }
 
-// Px of a detonation.
-fn detonation_pressure(c: Case, k: Cloud, air: u64, x: Span) -> Span
+// What a detonation formula takes: the state in the near field, Rx of a heterogeneous cloud, ln Rx of a gas.
+enum Detonation {
+    Near(u64),
+    Heterogeneous(Span),
+    Gas(Log),
+}
+
+// What the deflagration formulas take: w, g and R.
+struct Flame {
+    mach: Span,
+    expansion: Span,
+    distance: Span,
+}
+
+// The deflagration of ranges 2 to 6; range 1 has none.
+enum Deflagration {
+    Absent,
+    Burning(Flame),
+}
+
+// What overpressure and impulse of a case are both worked from.
+struct Common {
+    detonation: Detonation,
+    deflagration: Deflagration,
+}
+
+// The near field and the state choose the formula; ln Rx serves both figures of a gas.
+fn detonation_of(c: Case, k: Cloud, air: u64, x: Span) -> Detonation
     requires { ⌜ Seen c k air x ⌝ }
-    ensures { λ r. ⌜ Enclosure (detonationPressure air c) 420 977 1000 r ⌝ }
+    ensures { λ d. ⌜ Detonated air c d ⌝ }
 {
     let near = guidance::is_near_field(c, k, air);
     if near {
-        return EIGHTEEN;
+        return Detonation::Near(c.state);
     }
     if c.state == 1 {
-        waves::aerosol_pressure(x)
+        Detonation::Heterogeneous(x)
     } else {
         let l = waves::log_distance(x);
-        waves::gas_pressure(l)
+        Detonation::Gas(l)
     }
 }
 
-// Px and Ix of a heterogeneous detonation.
-fn aerosol_detonation(x: Span) -> Wave
-    requires { ⌜ Far x ⌝ }
-    ensures { λ w. ⌜ (Image aerosolPressure 180 985 997 x (w .pressure)) × (Image aerosolImpulse 60 982 994 x (w .impulse)) ⌝ }
+// Px of a detonation.
+fn detonation_pressure(c: Case, air: u64, d: Detonation) -> Span
+    requires { ⌜ Detonated air c d ⌝ }
+    ensures { λ r. ⌜ Enclosure (detonationPressure air c) detonationPressureWindow r ⌝ }
 {
-    let pressure = waves::aerosol_pressure(x);
-    let impulse = waves::aerosol_impulse(x);
-    Wave { pressure, impulse }
-}
-
-// Px and Ix of a gas detonation, from one ln Rx.
-fn gas_detonation(x: Span) -> Wave
-    requires { ⌜ Far x ⌝ }
-    ensures { λ w. ⌜ (Image gasPressure 420 977 1000 x (w .pressure)) × (Image gasImpulse 180 979 998 x (w .impulse)) ⌝ }
-{
-    let l = waves::log_distance(x);
-    let pressure = waves::gas_pressure(l);
-    let impulse = waves::gas_impulse(l);
-    Wave { pressure, impulse }
+    match d {
+        Detonation::Near(_) => EIGHTEEN,
+        Detonation::Heterogeneous(x) => waves::aerosol_pressure(x),
+        Detonation::Gas(l) => waves::gas_pressure(l),
+    }
 }
 
 // Ix of the near field.
 fn near_impulse(state: u64) -> Span
-    ensures { λ r. ⌜ Enclosure (nearImpulse state) 180 979 998 r ⌝ }
+    ensures { λ r. ⌜ Enclosure (nearImpulse state) detonationImpulseWindow r ⌝ }
 {
     if state == 1 {
         NEAR_AEROSOL
@@ -156,39 +174,14 @@ fn near_impulse(state: u64) -> Span
 }
 
 // Ix of a detonation.
-fn detonation_impulse(c: Case, k: Cloud, air: u64, x: Span) -> Span
-    requires { ⌜ Seen c k air x ⌝ }
-    ensures { λ r. ⌜ Enclosure (detonationImpulse air c) 180 979 998 r ⌝ }
+fn detonation_impulse(c: Case, air: u64, d: Detonation) -> Span
+    requires { ⌜ Detonated air c d ⌝ }
+    ensures { λ r. ⌜ Enclosure (detonationImpulse air c) detonationImpulseWindow r ⌝ }
 {
-    let near = guidance::is_near_field(c, k, air);
-    if near {
-        return near_impulse(c.state);
-    }
-    if c.state == 1 {
-        waves::aerosol_impulse(x)
-    } else {
-        let l = waves::log_distance(x);
-        waves::gas_impulse(l)
-    }
-}
-
-// Px and Ix of a detonation.
-fn detonation(c: Case, k: Cloud, air: u64, x: Span) -> Wave
-    requires { ⌜ Seen c k air x ⌝ }
-    ensures { λ w. ⌜ Waves (detonationPressure air c) (detonationImpulse air c) 420 977 1000 180 979 998 w ⌝ }
-{
-    let near = guidance::is_near_field(c, k, air);
-    if near {
-        let impulse = near_impulse(c.state);
-        return Wave {
-            pressure: EIGHTEEN,
-            impulse,
-        };
-    }
-    if c.state == 1 {
-        aerosol_detonation(x)
-    } else {
-        gas_detonation(x)
+    match d {
+        Detonation::Near(state) => near_impulse(state),
+        Detonation::Heterogeneous(x) => waves::aerosol_impulse(x),
+        Detonation::Gas(l) => waves::gas_impulse(l),
     }
 }
 
@@ -210,96 +203,84 @@ fn deflagration_distance(c: Case, k: Cloud, air: u64, x: Span) -> Span
     if under { NEAREST } else { x }
 }
 
-// Px of a deflagration.
-fn deflagration_pressure(c: Case, k: Cloud, air: u64, x: Span) -> Span
+// w, g and R of a case.
+fn flame_of(c: Case, k: Cloud, air: u64, x: Span) -> Flame
     requires { ⌜ Seen c k air x ⌝ }
-    ensures { λ r. ⌜ Enclosure (deflagrationPressure air c) 813 968 997 r ⌝ }
+    ensures { λ f. ⌜ FlameOf air c f ⌝ }
 {
-    let w = mach_number(c, k, air);
-    let g = waves::expansion(c.state);
-    let y = deflagration_distance(c, k, air, x);
-    waves::deflagration_pressure(w, g, y)
+    let mach = mach_number(c, k, air);
+    let expansion = waves::expansion(c.state);
+    let distance = deflagration_distance(c, k, air, x);
+    Flame {
+        mach,
+        expansion,
+        distance,
+    }
 }
 
-// Ix of a deflagration.
-fn deflagration_impulse(c: Case, k: Cloud, air: u64, x: Span) -> Span
+// Ranges 2 to 6 deflagrate.
+fn deflagration_of(c: Case, k: Cloud, air: u64, x: Span) -> Deflagration
     requires { ⌜ Seen c k air x ⌝ }
-    ensures { λ r. ⌜ Enclosure (deflagrationImpulse air c) 1455 970 994 r ⌝ }
+    ensures { λ f. ⌜ Deflagrated air c f ⌝ }
 {
-    let w = mach_number(c, k, air);
-    let g = waves::expansion(c.state);
-    let y = deflagration_distance(c, k, air, x);
-    waves::deflagration_impulse(w, g, y)
+    if k.range < 2 {
+        return Deflagration::Absent;
+    }
+    let f = flame_of(c, k, air, x);
+    Deflagration::Burning(f)
 }
 
-// Px and Ix of a deflagration.
-fn deflagration(c: Case, k: Cloud, air: u64, x: Span) -> Wave
-    requires { ⌜ Seen c k air x ⌝ }
-    ensures { λ w. ⌜ Waves (deflagrationPressure air c) (deflagrationImpulse air c) 813 968 997 1455 970 994 w ⌝ }
+// What both figures are worked from, each part once.
+fn common_of(c: Case, k: Cloud, air: u64) -> Common
+    requires { ⌜ Ready c k air ⌝ }
+    ensures { λ s. ⌜ CommonOf air c s ⌝ }
 {
-    let w = mach_number(c, k, air);
-    let g = waves::expansion(c.state);
-    let y = deflagration_distance(c, k, air, x);
-    let pressure = waves::deflagration_pressure(w, g, y);
-    let impulse = waves::deflagration_impulse(w, g, y);
-    Wave { pressure, impulse }
+    let x = reduced_distance(c, k, air);
+    let deflagration = deflagration_of(c, k, air, x);
+    let detonation = detonation_of(c, k, air, x);
+    Common {
+        detonation,
+        deflagration,
+    }
 }
 
 // Px: in ranges 2 to 6 the smaller of the two.
-fn reduced_pressure(c: Case, k: Cloud, air: u64) -> Span
-    requires { ⌜ Ready c k air ⌝ }
-    ensures { λ r. ⌜ Enclosure (reducedPressure air c) 813 968 1000 r ⌝ }
+fn reduced_pressure(c: Case, air: u64, s: Common) -> Span
+    requires { ⌜ CommonOf air c s ⌝ }
+    ensures { λ r. ⌜ Enclosure (reducedPressure air c) reducedPressureWindow r ⌝ }
 {
-    let x = reduced_distance(c, k, air);
-    let d = detonation_pressure(c, k, air, x);
-    if k.range < 2 {
-        return d;
+    let detonation = s.detonation;
+    let d = detonation_pressure(c, air, detonation);
+    let deflagration = s.deflagration;
+    match deflagration {
+        Deflagration::Absent => d,
+        Deflagration::Burning(f) => {
+            let p = waves::deflagration_pressure(f.mach, f.expansion, f.distance);
+            span::lesser(p, d)
+        }
     }
-    let f = deflagration_pressure(c, k, air, x);
-    span::lesser(f, d)
 }
 
 // Ix: in ranges 2 to 6 the smaller of the two.
-fn reduced_impulse(c: Case, k: Cloud, air: u64) -> Span
-    requires { ⌜ Ready c k air ⌝ }
-    ensures { λ r. ⌜ Enclosure (reducedImpulse air c) 1455 970 998 r ⌝ }
+fn reduced_impulse(c: Case, air: u64, s: Common) -> Span
+    requires { ⌜ CommonOf air c s ⌝ }
+    ensures { λ r. ⌜ Enclosure (reducedImpulse air c) reducedImpulseWindow r ⌝ }
 {
-    let x = reduced_distance(c, k, air);
-    let detonated = detonation_impulse(c, k, air, x);
-    if k.range < 2 {
-        return detonated;
+    let detonation = s.detonation;
+    let d = detonation_impulse(c, air, detonation);
+    let deflagration = s.deflagration;
+    match deflagration {
+        Deflagration::Absent => d,
+        Deflagration::Burning(f) => {
+            let i = waves::deflagration_impulse(f.mach, f.expansion, f.distance);
+            span::lesser(i, d)
+        }
     }
-    let burnt = deflagration_impulse(c, k, air, x);
-    span::lesser(burnt, detonated)
-}
-
-// The smaller of two waves, in each figure.
-fn lesser(a: Wave, b: Wave) -> Wave
-    requires { ⌜ Reduced a b ⌝ }
-    ensures { λ w. ⌜ (Smaller (a .pressure) (b .pressure) (w .pressure)) × (Smaller (a .impulse) (b .impulse) (w .impulse)) ⌝ }
-{
-    let pressure = span::lesser(a.pressure, b.pressure);
-    let impulse = span::lesser(a.impulse, b.impulse);
-    Wave { pressure, impulse }
-}
-
-// Px and Ix.
-fn reduced_wave(c: Case, k: Cloud, air: u64) -> Wave
-    requires { ⌜ Ready c k air ⌝ }
-    ensures { λ w. ⌜ Waves (reducedPressure air c) (reducedImpulse air c) 813 968 1000 1455 970 998 w ⌝ }
-{
-    let x = reduced_distance(c, k, air);
-    let d = detonation(c, k, air, x);
-    if k.range < 2 {
-        return d;
-    }
-    let f = deflagration(c, k, air, x);
-    lesser(f, d)
 }
 
 // ΔP = Px·P0.
 fn pascals(c: Case, k: Cloud, air: u64, px: Span) -> Span
-    requires { ⌜ (Ready c k air) × (Enclosure (reducedPressure air c) 813 968 1000 px) ⌝ }
+    requires { ⌜ (Ready c k air) × (Enclosure (reducedPressure air c) reducedPressureWindow px) ⌝ }
     ensures { λ s. ⌜ PressureSpan air c s ⌝ }
 {
     let p = span::whole(air);
@@ -308,7 +289,7 @@ fn pascals(c: Case, k: Cloud, air: u64, px: Span) -> Span
 
 // I = Ix·P0^(2/3)·E^(1/3)/C0.
 fn pascal_seconds(c: Case, k: Cloud, air: u64, ix: Span) -> Span
-    requires { ⌜ (Ready c k air) × (Enclosure (reducedImpulse air c) 1455 970 998 ix) ⌝ }
+    requires { ⌜ (Ready c k air) × (Enclosure (reducedImpulse air c) reducedImpulseWindow ix) ⌝ }
     ensures { λ s. ⌜ ImpulseSpan air c s ⌝ }
 {
     let power = air_power(air);
@@ -319,32 +300,16 @@ fn pascal_seconds(c: Case, k: Cloud, air: u64, ix: Span) -> Span
     span::quo(all, waves::coefficients::SOUND)
 }
 
-// ΔP of an accepted case, in Pa.
-fn pressure_span(c: Case, k: Cloud, air: u64) -> Span
-    requires { ⌜ Ready c k air ⌝ }
-    ensures { λ s. ⌜ PressureSpan air c s ⌝ }
-{
-    let px = reduced_pressure(c, k, air);
-    pascals(c, k, air, px)
-}
-
-// I of an accepted case, in Pa·s.
-fn impulse_span(c: Case, k: Cloud, air: u64) -> Span
-    requires { ⌜ Ready c k air ⌝ }
-    ensures { λ s. ⌜ ImpulseSpan air c s ⌝ }
-{
-    let ix = reduced_impulse(c, k, air);
-    pascal_seconds(c, k, air, ix)
-}
-
 // ΔP and I of an accepted case, in Pa and Pa·s.
 pub fn wave_of(c: Case, k: Cloud, air: u64) -> Wave
     requires { ⌜ Ready c k air ⌝ }
     ensures { λ w. ⌜ WaveOf air c w ⌝ }
 {
-    let r = reduced_wave(c, k, air);
-    let pressure = pascals(c, k, air, r.pressure);
-    let impulse = pascal_seconds(c, k, air, r.impulse);
+    let s = common_of(c, k, air);
+    let px = reduced_pressure(c, air, s);
+    let pressure = pascals(c, k, air, px);
+    let ix = reduced_impulse(c, air, s);
+    let impulse = pascal_seconds(c, k, air, ix);
     Wave { pressure, impulse }
 }
 
@@ -364,8 +329,10 @@ pub fn pressure(c: Case, air: u64) -> Ends
     ensures { λ e. ⌜ Ended (overpressure air c) (2 ^ 24) e ⌝ }
 {
     let k = guidance::cloud_of(c);
-    let s = pressure_span(c, k, air);
-    ends(s)
+    let s = common_of(c, k, air);
+    let px = reduced_pressure(c, air, s);
+    let p = pascals(c, k, air, px);
+    ends(p)
 }
 
 // I of an accepted case in whole pascal-seconds, without the work of the overpressure.
@@ -374,6 +341,8 @@ pub fn impulse(c: Case, air: u64) -> Ends
     ensures { λ e. ⌜ Ended (impulse air c) (2 ^ 24) e ⌝ }
 {
     let k = guidance::cloud_of(c);
-    let s = impulse_span(c, k, air);
-    ends(s)
+    let s = common_of(c, k, air);
+    let ix = reduced_impulse(c, air, s);
+    let i = pascal_seconds(c, k, air, ix);
+    ends(i)
 }

@@ -11,15 +11,16 @@ use Rattle.exact.specs.Series.{oneOver}
 use Rattle.exact.specs.laws.Width.{half}
 use Rattle.exact.specs.laws.Decide.{decF}
 use Rattle.exact.specs.laws.Frac.{⊑-refl, ⊑-trans, ⊠-mono}
-use Rattle.exact.specs.Bracket.{Bracket, _∈_}
+use Rattle.exact.specs.Bracket.{Bracket}
 use Rattle.exact.specs.laws.EndsMeet.{ofRatio-mono, Below, exp-below}
-use Rattle.exact.specs.Ends.{expLowerAt, expUpperAt}
+use Rattle.exact.specs.LnExp.{expLowerAt, expUpperAt}
 use Rattle.exact.specs.Formula.{lift, _>>_, expB}
 use Rattle.exact.specs.laws.Meeting.{ends}
 use Rattle.exact.specs.laws.Containment.{Inside, exp-isotone}
 use Rattle.exact.specs.laws.Points.{point, pair, signed-above, signed-product, product-signed}
 use Rattle.exact.specs.laws.Reduction.{most-upper, least-one, room, LowerEnd, lower-from, lower-from-negative}
 use Rattle.exact.specs.laws.ExpSpread.{slack, exp-ends-near}
+use Rattle.exact.specs.Holding.{_∈_}
 use Rattle.span.specs.declared.Span.{Span}
 use Rattle.span.specs.Spans.{unit, hull, units, Normal, Width}
 use Rattle.span.specs.Unary.{ExpWithin}
@@ -28,7 +29,7 @@ use Rattle.fixed.specs.declared.Log.{Log}
 use Rattle.fixed.specs.Logs.{fixed, up, dn, fixedZ, bracket, apart}
 use Rattle.enclosure.specs.Promises.{enough, Exponent, Exponential}
 use Rattle.enclosure.specs.ExpSteps.{low, high, binary, ExpAt, Lowered}
-use Rattle.enclosure.proofs.Tests.{below, tested}
+use Rattle.enclosure.proofs.ClosedFractions.{below, tested}
 
 -- the N-th lower end is there
 
@@ -54,24 +55,24 @@ cancel x y w p h =
 
 -- The lower end on words
 
-slacks : slack 33 ⊗ slack 33 ≼ binary (2 ^ 31 + 1) 31
+slacks : slack 63 ⊗ slack 63 ≼ binary (2 ^ 61 + 1) 61
 unfolding binary whole power half oneOver _⊕_ _⊗_
 slacks = tested _ _ tt
 
-slacks-above : Above0 (slack 33 ⊗ slack 33)
+slacks-above : Above0 (slack 63 ⊗ slack 63)
 unfolding whole power half oneOver _⊕_ _⊗_
 slacks-above = record { above = omega arith }
 
 module _ {x r : Span} {d : ℕ} (m : Normal x) (s : d ≤ 2 ^ 28) (w : Lowered x d r) where
-  lowered-product : low r ⊗ binary (2 ^ 31 + 1) 31 ≼ low x ⊗ (whole 1 ⊖ binary d 30)
+  lowered-product : low r ⊗ binary (2 ^ 61 + 1) 61 ≼ low x ⊗ (whole 1 ⊖ binary d 30)
   unfolding low binary whole _⊗_ _⊖_
   lowered-product =
       record { cross = rw (w .e) (go (r .lo) (x .lo) (2 ^ x .e) unit (1 * 2 ^ 30 - d * 1) (omega arith) (w .below) (omega (arith, w .below, m .most, m .ordered))) }
     where
-      go : (a b v w k : ℕ) → k + d ≡ 2 ^ 30 → a * 2 ^ 30 + b * d + 2 ^ 30 ≤ b * 2 ^ 30 → a ≤ 2 ^ 31
-          → a * v * (2 ^ 31 + 1) * (w * (1 * 2 ^ 30)) ≤ b * v * k * (w * 2 ^ 31)
+      go : (a b v w k : ℕ) → k + d ≡ 2 ^ 30 → a * 2 ^ 30 + b * d + 1 ≤ b * 2 ^ 30 → a ≤ 2 ^ 31
+          → a * v * (2 ^ 61 + 1) * (w * (1 * 2 ^ 30)) ≤ b * v * k * (w * 2 ^ 61)
       go a b v w k e h l =
-          let key : a * (2 ^ 31 + 1) * 2 ^ 30 ≤ b * k * 2 ^ 31 = omega (arith, ap (λ (i : ℕ). b * i) e) in
+          let key : a * (2 ^ 61 + 1) * 2 ^ 30 ≤ b * k * 2 ^ 61 = omega (arith, ap (λ (i : ℕ). b * i) e) in
           omega (arith, mul-le-mul-right (v * w) key)
 
 -- what is in the bracket of the ends
@@ -92,9 +93,9 @@ module _ (s : Frac) (i j d : ℕ) {x r : Span} (l : s ⊑ fixed i j) (a : fixed 
       let K = h .lower n g in
       let U = h .upper n g in
       let meet : K .end ⊑ U .end = subst₂ Below (K .is) (U .is) (exp-below t t (⊑-refl t) n n) in
-      let spread = exp-ends-near s t (binary d 30) l a 513 33 n u v (omega arith) o (U .end) e (U .is) in
-      cancel _ _ (slack 33 ⊗ slack 33) slacks-above
-      (⊑-trans (product-signed (low r) (slack 33 ⊗ slack 33))
+      let spread = exp-ends-near s t (binary d 30) l a 513 63 n u v (omega arith) o (U .end) e (U .is) in
+      cancel _ _ (slack 63 ⊗ slack 63) slacks-above
+      (⊑-trans (product-signed (low r) (slack 63 ⊗ slack 63))
       (⊑-trans (ofRatio-mono (≼-trans (⊗-mono (≼-refl (low r)) slacks) (lowered-product (h .normal) z w)))
       (⊑-trans (signed-product (low x) (whole 1 ⊖ binary d 30))
       (⊑-trans (⊠-mono (ofRatio (whole 1 ⊖ binary d 30)) (signed-above _) (⊑-trans (K .bound) meet)) spread))))

@@ -3,8 +3,8 @@ use mathlib.Core.Path.{_≡_, sym}
 use Prim.Native.Nat.{ℕ, _+_, _*_, _^_, _≤_, _<_}
 use native.Mathlib.Nat.{mul-pos}
 use native.Mathlib.Omega.{arith}
-use Rattle.exact.specs.Fraction.{Ratio, _≼_, whole, _⊕_, _⊗_}
-use Rattle.exact.specs.laws.Ratio.{_≈_, ≼-refl, ≼-trans, to≼, from≼, ⊗-mono}
+use Rattle.exact.specs.Fraction.{Ratio, _≼_, _≈_, whole, _⊕_, _⊗_}
+use Rattle.exact.specs.laws.Ratio.{≼-refl, ≼-trans, to≼, from≼, ⊗-mono}
 use Rattle.exact.specs.laws.Reduction.{most-sum, most-mono, least-sum, least-mono}
 use Rattle.span.specs.declared.Span.{Span}
 use Rattle.span.specs.Spans.{unit, unit-positive, Normal, Factors, Product}

@@ -1,26 +1,26 @@
 -- From the bounds of e^y, y from 0 up, to the N-th ends at y and at -y. Assumes nothing.
 use mathlib.Core.Path.{_≡_, refl}
-use Prim.Native.Nat.{ℕ, zero, suc, _+_, _*_, _-_, _^_, _≤_, _<_}
+use Prim.Native.Nat.{ℕ, _+_, _*_, _-_, _^_, _≤_, _<_}
 use native.Mathlib.Nat.{mul-pos}
 use native.Mathlib.Omega.{arith}
 use lib.Pow.{pow-pos}
 use Rattle.exact.specs.Fraction.{Ratio, _≼_, whole, _⊕_, _⊗_, power, _⊑_, zeroF, neg, magnitude, Above0, _⊖_, recip, sum}
-use Rattle.exact.specs.laws.Ratio.{≼-refl, ≼-trans, ⊗-mono}
+use Rattle.exact.specs.laws.Ratio.{≼-refl, ≼-trans, to≼, ⊗-mono}
 use Rattle.exact.specs.laws.Frac.{⊑-trans}
-use Rattle.exact.specs.Bracket.{_∈_}
 use Rattle.exact.specs.laws.EndsMeet.{ofRatio-mono}
+use Rattle.exact.specs.laws.LogAbove.{powers-of-two}
 use Rattle.exact.specs.laws.Reduction.{Most, most-mono, least-mono, UpperEnd, lower-from, upper-from, lower-from-negative, upper-from-negative, most-times, most-upper}
 use Rattle.exact.specs.Series.{factorial, expTerm, expLower, expTail, expUpper}
+use Rattle.exact.specs.Holding.{_∈_}
 use Rattle.span.specs.declared.Span.{Span}
 use Rattle.span.specs.Spans.{unit, unit-positive, hull, fraction, Normal, Divisible, Quotient}
 use Rattle.span.specs.Enclosing.{wider, divisor}
-use Rattle.span.specs.Powers.{powers}
 use Rattle.span.specs.Windows.{exponent-by}
 use Rattle.span.specs.Bounds.{lower-end, upper-end, quotient-at, held}
 use Rattle.span.specs.Constants.{constant}
 use Rattle.fixed.specs.Logs.{fixed}
 use Rattle.enclosure.specs.Promises.{octave}
-use Rattle.enclosure.proofs.Tests.{tested}
+use Rattle.enclosure.proofs.ClosedFractions.{tested}
 use Rattle.enclosure.specs.ExpSteps.{low, high, binary, spare, ExpIn, ExpAt}
 
 -- wider at the upper end
@@ -66,15 +66,6 @@ octave-most : Most (binary octave 30) (whole 2)
 unfolding binary expUpper expLower expTail expTerm sum power factorial whole recip _⊖_ _⊗_ _⊕_
 octave-most = most-mono (≼-refl _) (most-upper _ 13 octave-room) (tested _ _ tt)
 
-twice : (m n : ℕ) → 2 * m ≡ n → whole 2 ⊗ whole m ≼ whole n
-unfolding whole _⊗_
-twice m n h = record { cross = omega arith }
-
-powers-of-two : (k : ℕ) → power (whole 2) k ≼ whole (2 ^ k)
-unfolding power
-powers-of-two zero = ≼-refl _
-powers-of-two (suc k) = ≼-trans (⊗-mono (≼-refl (whole 2)) (powers-of-two k)) (twice (2 ^ k) (2 ^ suc k) (powers 1 k (suc k) (omega arith)))
-
 octaves : (y k : ℕ) → y ≤ k * octave → binary y 30 ≼ whole k ⊗ binary octave 30
 unfolding binary whole _⊗_
 octaves y k h = record { cross = omega arith }
@@ -85,7 +76,7 @@ below-power a k h = omega (arith, h .cross)
 
 pub exponent-in : {w : Ratio} {t D h y : ℕ} {a : Span} → ExpIn w t D h (binary y 30) a → D ≤ 2 ^ 28 → (k : ℕ) → y ≤ k * octave → a .e ≤ 995 + k
 exponent-in {t = t} {y = y} {a = a} p d k l =
-    let m = most-mono (octaves y k l) (most-times octave-most k) (powers-of-two k) in
+    let m = most-mono (octaves y k l) (most-times octave-most k) (to≼ (powers-of-two k)) in
     omega (arith, exponent-by (a .lo) 29 (a .e) k (divisor (p .normal) (p .width) d) (below-power a k (≼-trans (p .lower .begin) (m .all t))))
 
 -- y from 0 up

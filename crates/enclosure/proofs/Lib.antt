@@ -1,9 +1,10 @@
-pub mod Signed
+pub mod Differences
 pub mod OddSeries
 pub mod Octave
 pub mod LnPoint
 pub mod LnInterval
-pub mod Tests
+pub mod ClosedFractions
+pub mod Matches
 pub mod Entries
 pub mod Quadratic
 pub mod ExpProducts

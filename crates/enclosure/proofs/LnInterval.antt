@@ -15,12 +15,12 @@ use Rattle.exact.specs.laws.Ln.{whole-mono}
 use Rattle.exact.specs.laws.Width.{ninth}
 use Rattle.exact.specs.laws.Fixed.{Upper, upper-sum}
 use Rattle.exact.specs.laws.Frac.{⊑-refl, ⊑-trans}
-use Rattle.exact.specs.Bracket.{_∈_}
 use Rattle.exact.specs.laws.Divisors.{magnitude-above}
-use Rattle.exact.specs.Ends.{lnLowerAt}
+use Rattle.exact.specs.LnExp.{lnLowerAt}
 use Rattle.exact.specs.laws.EndsMeet.{ln-below}
 use Rattle.exact.specs.laws.Containment.{ln-lower-end, ln-upper-end}
 use Rattle.exact.specs.laws.Spread.{octaves, octaves-most, spread, ln-spread-signed}
+use Rattle.exact.specs.Holding.{_∈_}
 use Rattle.span.specs.declared.Span.{Span}
 use Rattle.span.specs.Spans.{unit, unit-positive, units, hull, Rel}
 use Rattle.span.specs.Unary.{LnWithin}
@@ -28,8 +28,8 @@ use Rattle.fixed.specs.declared.Log.{Log}
 use Rattle.fixed.specs.Logs.{up, dn, fixed, fixedZ, bracket}
 use Rattle.enclosure.specs.Promises.{Loggable, Logarithm}
 use Rattle.enclosure.specs.LogSteps.{ratio, biased, biasedPair, LnPoint, Slack, Unbiased}
-use Rattle.fixed.specs.Parts.{least}
-use Rattle.fixed.proofs.Words.{size}
+use Rattle.fixed.specs.SignedLaws.{least}
+use Rattle.signed.specs.Magnitude.{size}
 use Rattle.enclosure.proofs.OddSeries.{upper-to, ninth-from}
 use Rattle.span.specs.Powers.{powers}
 
@@ -112,7 +112,7 @@ taken h l w x Z e u k =
     }
 
 module _ (i j g w h l : ℕ) (some : 0 < i) (e : i + g ≡ j) (most : j ≤ unit * unit) (s : g * 2 ^ 30 ≤ w * i) (q : l + (w + 1) ≡ h)
-    (ends : (z : Positive (units j)) (n : ℕ) → 20 ≤ n → LnWithin (units j) z n (biasedPair h (h + 15))) where
+    (ends : (z : Positive (units j)) (n : ℕ) → 20 ≤ n → LnWithin (units j) z n (biasedPair h (h + 8))) where
   at-low : (z : Positive (units i)) (n : ℕ) → 20 ≤ n → biased l ⊑ lnLowerAt (units i) z n
   unfolding biasedPair spread
   at-low z n b =
@@ -124,7 +124,7 @@ module _ (i j g w h l : ℕ) (some : 0 < i) (e : i + g ≡ j) (most : j ≤ unit
       (⊑-trans (ln-below (units j) (units j) y y (⊑-refl (units j)) n n)
       (ln-spread-signed (units i) (units j) (ratio g unit unit-positive) z y (units-mono i j (omega arith)) (moves i j g e) n)))
 
-  pub over-points : (p : Frac) → p ∈ record { lo = units i; hi = units j } → (z : Positive p) (n : ℕ) → 20 ≤ n → LnWithin p z n (biasedPair l (h + 15))
+  pub over-points : (p : Frac) → p ∈ record { lo = units i; hi = units j } → (z : Positive p) (n : ℕ) → 20 ≤ n → LnWithin p z n (biasedPair l (h + 8))
   unfolding biasedPair
   over-points p m z n b =
       let x : Positive (units i) = positive i some in
@@ -157,11 +157,11 @@ pub unbiased-fits : (z : ℤ) {x : ℕ} → Unbiased x z → x < 2 ^ 41 → mag 
 unbiased-fits z {x} u h = let p = least z {a = x} {b = 2 ^ 40} (u .parts) in size z (omega (arith, p .0)) (omega (arith, p .1))
 
 -- the words that are unbiased
-pub word-fits : (t : Span) (h w : ℕ) → Loggable t → LnPoint (t .hi) (t .e) h → Slack (t .lo) (t .hi) w → (w + 1 ≤ h) × (h + 15 < 2 ^ 41)
+pub word-fits : (t : Span) (h w : ℕ) → Loggable t → LnPoint (t .hi) (t .e) h → Slack (t .lo) (t .hi) w → (w + 1 ≤ h) × (h + 8 < 2 ^ 41)
 word-fits t h w a d s = (omega (arith, d .least 993 (omega arith), s .small), omega (arith, d .most 1023 (a .most)))
 
 pub logarithm : (t : Span) (h w l u : ℕ) (r : Log) → Loggable t → LnPoint (t .hi) (t .e) h → Slack (t .lo) (t .hi) w
-    → l + (w + 1) ≡ h → u ≡ h + 15 → Unbiased l (r .lo) → Unbiased u (r .hi) → Logarithm t r
+    → l + (w + 1) ≡ h → u ≡ h + 8 → Unbiased l (r .lo) → Unbiased u (r .hi) → Logarithm t r
 unfolding hull biasedPair bracket
 logarithm t h w l u r a d s q j lo hi =
     let K = 2 ^ t .e in

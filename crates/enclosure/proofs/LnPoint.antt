@@ -1,16 +1,17 @@
 -- ln at a point: from k ln 2 and the series to the N-th ends of the theory, on both sides of 1. Assumes nothing.
 use mathlib.Core.Path.{_≡_, refl, ap, sym, subst, _∙_}
-use Prim.Native.Nat.{ℕ, zero, suc, _+_, _-_, _*_, _/_, _^_, _≤_, _<_}
+use Prim.Native.Nat.{ℕ, _+_, _-_, _*_, _/_, _^_, _≤_, _<_}
 use native.Mathlib.Nat.{add-comm, mul-le-mul, mul-le-mul-right, mul-le-mul-left, le-of-mul-le-mul-right}
 use native.Mathlib.Decide.{decLe}
 use native.Mathlib.Omega.{arith}
-use Rattle.exact.specs.Fraction.{Ratio, _≼_, Above0, whole, _⊕_, _⊗_, _⊖_, recip, _⊑_, Positive, ofRatio, neg, magnitude, oneF}
-use Rattle.exact.specs.laws.Ratio.{_≈_, ≼-refl, ≼-trans, to≼, from≼, ⊕-mono, above-mono}
+use Rattle.exact.specs.Fraction.{Ratio, _≼_, _≈_, Above0, whole, _⊕_, _⊗_, _⊖_, recip, _⊑_, Positive, ofRatio, neg, magnitude, oneF}
+use Rattle.exact.specs.laws.Ratio.{≼-refl, ≼-trans, to≼, from≼, ⊕-mono, above-mono}
 use Rattle.exact.specs.Series.{gap, argument}
 use Rattle.exact.specs.laws.Positive.{two-pow-pos}
+use Rattle.exact.specs.laws.Octaves.{suc-pow}
 use Rattle.exact.specs.laws.LnSeries.{gap-anti, series-lower-mono, series-upper-mono}
 use Rattle.exact.specs.laws.Divisors.{gap-argument, magnitude-above, one-magnitude, one-recip}
-use Rattle.exact.specs.Ends.{lnLower, lnUpper}
+use Rattle.exact.specs.LnExp.{lnLower, lnUpper}
 use Rattle.exact.specs.laws.Decide.{decF}
 use Rattle.exact.specs.laws.Fixed.{Lower, Upper, lower-sum, upper-sum}
 use Rattle.exact.specs.laws.Frac.{⊑-trans}
@@ -65,7 +66,7 @@ module _ (t : Ratio) (p q k r : ℕ) (y : 0 < q) (l : q ≤ p) (h : p ≤ 2 * q)
       (≼-trans (⊕-mono (≼-refl _) (series-lower-mono (from≼ (argument-is p q y z)) n)) (ln-low t (ratio p q y) k o f-least f-most f-splits n))
       (d .below z n b)
 
-  pub point-high : (v : whole 1 ≼ t) (n : ℕ) → 20 ≤ n → Upper (2 ^ 30) (r + 15) (lnUpper t v n)
+  pub point-high : (v : whole 1 ≼ t) (n : ℕ) → 20 ≤ n → Upper (2 ^ 30) (r + 8) (lnUpper t v n)
   point-high v n b =
       let z : 0 < p + q = omega arith in
       let g : Above0 (gap (argument (ratio p q y))) = gap-argument _ f-above in
@@ -80,15 +81,15 @@ lower-fixed : {r : ℕ} {x : Ratio} → Lower (2 ^ 30) r x → biased (2 ^ 40 + 
 unfolding biased fixed ofRatio
 lower-fixed h = record { cross = omega (arith, h .bound) }
 
-upper-fixed : (r : ℕ) {x : Ratio} → Upper (2 ^ 30) (r + 15) x → ofRatio x ⊑ biased (2 ^ 40 + r + 15)
+upper-fixed : (r : ℕ) {x : Ratio} → Upper (2 ^ 30) (r + 8) x → ofRatio x ⊑ biased (2 ^ 40 + r + 8)
 unfolding biased fixed ofRatio
 upper-fixed r h = record { cross = omega (arith, h .bound) }
 
-lower-negated : (r h : ℕ) {x : Ratio} → h + (r + 15) ≡ 2 ^ 40 → Upper (2 ^ 30) (r + 15) x → biased h ⊑ neg (ofRatio x)
+lower-negated : (r h : ℕ) {x : Ratio} → h + (r + 8) ≡ 2 ^ 40 → Upper (2 ^ 30) (r + 8) x → biased h ⊑ neg (ofRatio x)
 unfolding biased fixed ofRatio neg
 lower-negated r h {x} e u = record { cross = omega (arith, u .bound, ap (λ (i : ℕ). i * x .den) e) }
 
-upper-negated : (r h : ℕ) {x : Ratio} → h + (r + 15) ≡ 2 ^ 40 → Lower (2 ^ 30) r x → neg (ofRatio x) ⊑ biased (h + 15)
+upper-negated : (r h : ℕ) {x : Ratio} → h + (r + 8) ≡ 2 ^ 40 → Lower (2 ^ 30) r x → neg (ofRatio x) ⊑ biased (h + 8)
 unfolding biased fixed ofRatio neg
 upper-negated r h {x} e u = record { cross = omega (arith, u .bound, ap (λ (i : ℕ). i * x .den) e) }
 
@@ -104,7 +105,7 @@ unfolding magnitude units
 split-above v m k e = let s : v - 0 ≡ v = omega arith in rw s e
 
 pub above-one : (v m k r : ℕ) → 2 ^ 30 ≤ m → m ≤ 2 ^ 31 → v * 2 ^ 30 ≡ 2 ^ k * m * unit → Octaves k (m - 2 ^ 30) (m + 2 ^ 30) r
-    → (z : Positive (units v)) (n : ℕ) → 20 ≤ n → LnWithin (units v) z n (biasedPair (2 ^ 40 + r) (2 ^ 40 + r + 15))
+    → (z : Positive (units v)) (n : ℕ) → 20 ≤ n → LnWithin (units v) z n (biasedPair (2 ^ 40 + r) (2 ^ 40 + r + 8))
 unfolding biasedPair
 above-one v m k r l h e d z n b =
     let o = from-one v m k l e in
@@ -118,10 +119,6 @@ above-one v m k r l h e d z n b =
 split-below : (v m k : ℕ) (g : Above0 (magnitude (units v))) → unit * m ≡ 2 ^ k * 2 ^ 31 * v → recip (magnitude (units v)) g .num * m ≡ 2 ^ k * 2 ^ 31 * recip (magnitude (units v)) g .den
 unfolding recip magnitude units
 split-below v m k g e = let s : v - 0 ≡ v = omega arith in rw s e
-
-suc-pow : (m : ℕ) → suc m ≤ 2 ^ m
-suc-pow zero = omega arith
-suc-pow (suc m) = omega (arith, suc-pow m)
 
 -- at 1 itself nothing is left: no octave, and u = 0
 module _ (v m k : ℕ) (u : m ≤ 2 ^ 31) (e : unit * m ≡ 2 ^ k * 2 ^ 31 * v) (i : oneF ⊑ units v) where
@@ -158,20 +155,20 @@ nothing-left {k} {a} {b} {r} z e f d =
     let o : Octaves 0 0 b r = subst (λ (i : ℕ). Octaves 0 i b r) f (subst (λ (i : ℕ). Octaves i a b r) e d) in
     nothing-low (lower-to (none-low _ (nothing-here b z) 20) (o .below z 20 (omega arith)))
 
-lower-none : (r h : ℕ) (x : Ratio) → h + (r + 15) ≡ 2 ^ 40 → biased h ⊑ ofRatio x
+lower-none : (r h : ℕ) (x : Ratio) → h + (r + 8) ≡ 2 ^ 40 → biased h ⊑ ofRatio x
 unfolding biased fixed ofRatio
 lower-none r h x e = let l : h ≤ 2 ^ 40 = omega arith in record { cross = omega (arith, mul-le-mul-right (x .den) l) }
 
-upper-none : (r h : ℕ) {x : Ratio} → h + (r + 15) ≡ 2 ^ 40 → r ≡ 0 → x ≼ whole 0 → ofRatio x ⊑ biased (h + 15)
+upper-none : (r h : ℕ) {x : Ratio} → h + (r + 8) ≡ 2 ^ 40 → r ≡ 0 → x ≼ whole 0 → ofRatio x ⊑ biased (h + 8)
 unfolding biased fixed ofRatio whole
-upper-none r h {x} e q l = let s : h + 15 ≡ 2 ^ 40 = omega arith in rw s (record { cross = omega (arith, l .cross) })
+upper-none r h {x} e q l = let s : h + 8 ≡ 2 ^ 40 = omega arith in rw s (record { cross = omega (arith, l .cross) })
 
-pub below-one : (v m k r h : ℕ) → 2 ^ 30 ≤ m → m ≤ 2 ^ 31 → unit * m ≡ 2 ^ k * 2 ^ 31 * v → h + (r + 15) ≡ 2 ^ 40
-    → Octaves k (2 ^ 31 - m) (2 ^ 31 + m) r → (z : Positive (units v)) (n : ℕ) → 20 ≤ n → LnWithin (units v) z n (biasedPair h (h + 15))
+pub below-one : (v m k r h : ℕ) → 2 ^ 30 ≤ m → m ≤ 2 ^ 31 → unit * m ≡ 2 ^ k * 2 ^ 31 * v → h + (r + 8) ≡ 2 ^ 40
+    → Octaves k (2 ^ 31 - m) (2 ^ 31 + m) r → (z : Positive (units v)) (n : ℕ) → 20 ≤ n → LnWithin (units v) z n (biasedPair h (h + 8))
 unfolding biasedPair
 below-one v m k r h l u e q d z n b = go (decF oneF (units v))
   where
-    go : Dec (oneF ⊑ units v) → LnWithin (units v) z n (biasedPair h (h + 15))
+    go : Dec (oneF ⊑ units v) → LnWithin (units v) z n (biasedPair h (h + 8))
     go (yes i) =
         let none : r ≡ 0 = nothing-left (omega arith) (no-octave v m k u e i) (no-rest v m k u e i) d in
         record {
@@ -203,12 +200,12 @@ ln-above m e r p l d =
     let s : m * 2 ^ e * 2 ^ 30 ≡ 2 ^ k * m * unit = omega (arith, ap (λ (i : ℕ). m * i) (unit-above k e (omega arith))) in
     record { ends = above-one (m * 2 ^ e) m k r (p .least) (p .most) s d; least = λ j q. omega (arith, d .small); most = λ j q. omega (arith, d .small) }
 
-pub ln-below : (m e r : ℕ) → Point m e → e < 994 → Octaves (993 - e) (2 ^ 31 - m) (2 ^ 31 + m) r → LnPoint m e (2 ^ 40 - (r + 15))
+pub ln-below : (m e r : ℕ) → Point m e → e < 994 → Octaves (993 - e) (2 ^ 31 - m) (2 ^ 31 + m) r → LnPoint m e (2 ^ 40 - (r + 8))
 ln-below m e r p l d =
     let k = 993 - e in
     let s : unit * m ≡ 2 ^ k * 2 ^ 31 * (m * 2 ^ e) = omega (arith, ap (λ (i : ℕ). i * m) (unit-below k e (omega arith))) in
     record {
-      ends = below-one (m * 2 ^ e) m k r (2 ^ 40 - (r + 15)) (p .least) (p .most) s (omega (arith, d .small)) d;
+      ends = below-one (m * 2 ^ e) m k r (2 ^ 40 - (r + 8)) (p .least) (p .most) s (omega (arith, d .small)) d;
       least = λ j q. omega (arith, d .small);
       most = λ j q. omega (arith, d .small);
     }
@@ -232,10 +229,10 @@ module _ {m e k a f : ℕ} (p : Point m e) (s : Sided e (e - 994) (993 - e) k) (
           let g : e < 994 = omega arith in
           rw (s .below g, t .below g, u .below g) (record { series = record { some = omega arith; fits = omega (arith, p .most); third = omega (arith, p .least, p .most) }; most = omega arith })
 
-  pub sides-small : {r : ℕ} → Octaves k a (f + m) r → r + 15 ≤ 2 ^ 40
+  pub sides-small : {r : ℕ} → Octaves k a (f + m) r → r + 8 ≤ 2 ^ 40
   sides-small d = omega (arith, d .small, sides-fit .most)
 
-  pub both-sides : {r h : ℕ} → Octaves k a (f + m) r → Sided e (2 ^ 40 + r) (2 ^ 40 - (r + 15)) h → LnPoint m e h
+  pub both-sides : {r h : ℕ} → Octaves k a (f + m) r → Sided e (2 ^ 40 + r) (2 ^ 40 - (r + 8)) h → LnPoint m e h
   both-sides {r} {h} d v = go (decLe 994 e)
     where
       go : Dec (994 ≤ e) → LnPoint m e h

@@ -5,34 +5,22 @@ use Prim.Native.Nat.{ℕ, suc, _+_, _*_, _/_, _^_, _≤_, _<_}
 use native.Mathlib.Nat.{mul-pos, mul-le-mul-right, mul-le-mul-left, le-of-mul-le-mul-right, div-mul-le-self, pow-le-pow-right, eq-or-lt-of-le}
 use native.Mathlib.Decide.{decLe}
 use native.Mathlib.Omega.{arith}
-use Rattle.exact.specs.Fraction.{Ratio, _≼_, Above0, whole, _⊕_, _⊗_, _⊖_, recip, power}
-use Rattle.exact.specs.laws.Ratio.{_≈_, ≼-refl, ≼-trans, ⊕-mono, ⊗-mono, above-whole, nothing-times}
+use Rattle.exact.specs.Fraction.{Ratio, _≼_, _≈_, Above0, whole, _⊕_, _⊗_, _⊖_, recip, power}
+use Rattle.exact.specs.laws.Ratio.{≼-refl, ≼-trans, ⊕-mono, ⊗-mono, above-whole, nothing-times}
 use Rattle.exact.specs.Series.{oneOver, even, odd, lnTail, gap, seriesLower, seriesUpper, exponent, fraction, argument, third}
 use Rattle.exact.specs.laws.Positive.{odd-pos, two-pow-pos}
-use Rattle.exact.specs.laws.LnSeries.{series-lower-mono, series-upper-mono}
+use Rattle.exact.specs.laws.LnSeries.{series-lower-grows, series-lower-mono, series-upper-mono}
 use Rattle.exact.specs.laws.Ln.{exponent-low, exponent-high, argument-mono, argument-two, two-pow-times, whole-mono, ladder}
 use Rattle.exact.specs.laws.Divisors.{gap-third, gap-argument}
-use Rattle.exact.specs.Ends.{ln2Lower, ln2Upper, lnLower, lnUpper}
-use Rattle.exact.specs.laws.Octaves.{zero-terms, zero-zero, twice-zero}
+use Rattle.exact.specs.LnExp.{ln2Lower, ln2Upper, lnLower, lnUpper}
+use Rattle.exact.specs.laws.Octaves.{third-two, argument-one, zero-times, zero-terms, zero-zero, twice-zero}
 use Rattle.exact.specs.laws.Width.{ninth}
 use Rattle.exact.specs.laws.Fixed.{Lower, Upper}
-use Rattle.enclosure.proofs.OddSeries.{lower-to, upper-to, upper-near, ninth-from, lower-grows}
-
-third-two : third ≼ argument (whole 2)
-unfolding argument third oneOver whole recip _⊖_ _⊗_ _⊕_
-third-two = omega arith
-
-argument-one : argument (whole 1) ≼ whole 0
-unfolding argument whole recip _⊖_ _⊗_ _⊕_
-argument-one = omega arith
+use Rattle.enclosure.proofs.OddSeries.{lower-to, upper-to, upper-near, ninth-from}
 
 gap-zero : Above0 (gap (whole 0))
 unfolding gap whole _⊖_ _⊗_
 gap-zero = omega arith
-
-zero-times : (x y : Ratio) → whole 0 ⊗ x ⊗ y ≼ whole 0
-unfolding whole _⊗_
-zero-times x y = omega arith
 
 no-tail : (n : ℕ) (h : Above0 (gap (whole 0))) → lnTail (whole 0) n h ≼ whole 0
 unfolding lnTail power
@@ -162,7 +150,7 @@ pub record Ln2 (C : ℕ) : Type 0 where
 
 pub ln2-low : {C : ℕ} → Ln2 C → (n : ℕ) → 20 ≤ n → Lower (2 ^ 52) C (ln2Lower n)
 unfolding ln2Lower
-ln2-low l n h = lower-to (lower-grows third 20 n h) (l .low)
+ln2-low l n h = lower-to (series-lower-grows third 20 n h) (l .low)
 
 pub ln2-high : {C : ℕ} → Ln2 C → (n : ℕ) → 20 ≤ n → Upper (2 ^ 52) (C + 1) (ln2Upper n)
 unfolding ln2Upper

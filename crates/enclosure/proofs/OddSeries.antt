@@ -1,18 +1,18 @@
 -- The loop of the odd series on plain numbers: the terms from the j-th on, without their common u^(2j+1), are h in S-ths, rounded downward; h lacks at
 -- most 5. Assumes nothing.
-use mathlib.Core.Path.{_≡_, refl, sym, ap, subst, _∙_}
+use mathlib.Core.Path.{_≡_, sym, ap, subst, _∙_}
 use Prim.Native.Nat.{ℕ, zero, suc, _+_, _*_, _/_, _^_, _≤_, _<_}
 use native.Mathlib.Nat.{le-trans, le-of-eq, mul-le-mul, mul-mul-mul-comm, mul-assoc, mul-le-mul-right, le-of-mul-le-mul-right, div-mul-le-self, lt-div-mul-add, div-le-self, le-dest}
 use native.Mathlib.Omega.{arith}
 use lib.Dec.{lit≤}
-use Rattle.exact.specs.Fraction.{Ratio, _≼_, Above0, whole, _⊕_, _⊗_, power, sum}
-use Rattle.exact.specs.laws.Ratio.{_≈_, ≼-refl, ≼-trans, ⊕-mono, ⊕-assoc, to≼, from≼, ⊗-mono}
+use Rattle.exact.specs.Fraction.{Ratio, _≼_, _≈_, Above0, whole, _⊕_, _⊗_, power, sum}
+use Rattle.exact.specs.laws.Ratio.{≼-refl, ≼-trans, ⊕-mono, ⊕-assoc, to≼, from≼}
 use Rattle.exact.specs.laws.Equal.{≈-refl, ≈-trans, ⊕-cong}
-use Rattle.exact.specs.laws.Sums.{after, after-is, sum-grows}
+use Rattle.exact.specs.laws.Sums.{after, after-is}
 use Rattle.exact.specs.Series.{oneOver, even, odd, lnTerm, gap, seriesLower, seriesUpper, third}
 use Rattle.exact.specs.laws.Positive.{odd-pos}
-use Rattle.exact.specs.laws.LnSeries.{even-is, series-lower-upper}
-use Rattle.exact.specs.laws.Width.{ninth, series-width}
+use Rattle.exact.specs.laws.LnSeries.{even-is, series-lower-grows, series-lower-upper}
+use Rattle.exact.specs.laws.Width.{after-suc, ninth, series-width}
 use Rattle.exact.specs.laws.Fixed.{Lower, Upper, lower-sum, upper-sum, lower-product, upper-product}
 use Rattle.enclosure.specs.LogSteps.{ratio, Third, Series}
 
@@ -48,10 +48,6 @@ no-more s p = omega arith
 regroup : (p o t u : Ratio) → p ⊗ o ⊕ (u ⊗ (u ⊗ p)) ⊗ t ≈ p ⊗ (o ⊕ u ⊗ u ⊗ t)
 unfolding _⊕_ _⊗_
 regroup p o t u = omega arith
-
-after-suc : (j n : ℕ) → after (suc j) n ≡ suc (after j n)
-after-suc j zero = refl
-after-suc j (suc n) = ap suc (after-suc j n)
 
 -- the n terms from the j-th on
 from-on : (u : Ratio) (j n : ℕ) → sum (lnTerm u) (after j n) ≈ sum (lnTerm u) j ⊕ power u (odd j) ⊗ nested u j n
@@ -218,13 +214,6 @@ scale-high s x h =
     let d : s + 4 ≤ (s / 2 + 3) * 2 = omega arith in
     record { bound = omega (arith, h .bound, mul-le-mul-right (x .den) d) }
 
-pub lower-grows : (u : Ratio) (m n : ℕ) → m ≤ n → seriesLower u m ≼ seriesLower u n
-unfolding seriesLower
-lower-grows u m n h =
-    let d : (k : ℕ) × (m + k ≡ n) = le-dest h in
-    subst (λ (i : ℕ). whole 2 ⊗ sum (lnTerm u) m ≼ whole 2 ⊗ sum (lnTerm u) i) (after-is m (d .0) ∙ d .1)
-    (⊗-mono (≼-refl (whole 2)) (sum-grows (lnTerm u) m (d .0)))
-
 ninth-less : (x : Ratio) → ninth ⊗ x ≼ x
 unfolding ninth oneOver _⊗_
 ninth-less x = omega arith
@@ -266,9 +255,9 @@ last a b w v h t i =
     }
   where
     low : (z : 0 < b) (n : ℕ) → 20 ≤ n → Lower (2 ^ 30) (w * h / S / 2) (seriesLower (ratio a b z) n)
-    low z n k = lower-to (lower-grows (ratio a b z) 9 n (omega arith)) (scale-low _ _ (sum-low (i z)))
+    low z n k = lower-to (series-lower-grows (ratio a b z) 9 n (omega arith)) (scale-low _ _ (sum-low (i z)))
 
-    high : (z : 0 < b) (n : ℕ) → 20 ≤ n → (g : Above0 (gap (ratio a b z))) → Upper (2 ^ 30) (w * h / S / 2 + 13) (seriesUpper (ratio a b z) n g)
+    high : (z : 0 < b) (n : ℕ) → 20 ≤ n → (g : Above0 (gap (ratio a b z))) → Upper (2 ^ 30) (w * h / S / 2 + 6) (seriesUpper (ratio a b z) n g)
     high z n k g =
         upper-to
         (≼-trans (upper-near (ratio a b z) (below-third a b t z) g 9 n (omega arith)) (≼-trans (⊕-mono (≼-refl _) (ninth-from 20 n k)) (assoc _ _ _)))

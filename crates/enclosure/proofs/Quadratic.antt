@@ -4,14 +4,14 @@ use Prim.Native.Nat.{ℕ, _+_, _*_, _^_, _≤_, _<_}
 use native.Mathlib.Nat.{mul-pos, mul-le-mul, mul-le-mul-right}
 use native.Mathlib.Omega.{arith}
 use lib.Pow.{pow-pos}
-use Rattle.exact.specs.Fraction.{Ratio, _≼_, Above0, whole, _⊕_, _⊗_, _⊖_, recip, power, sum}
-use Rattle.exact.specs.laws.Ratio.{_≈_, ≼-refl, ≼-trans, to≼, from≼, ⊕-mono, ⊗-mono, recip-anti, ⊖-anti}
+use Rattle.exact.specs.Fraction.{Ratio, _≼_, _≈_, Above0, whole, _⊕_, _⊗_, _⊖_, recip, power, sum}
+use Rattle.exact.specs.laws.Ratio.{≼-refl, ≼-trans, to≼, from≼, ⊕-mono, ⊗-mono, recip-anti, ⊖-anti}
 use Rattle.exact.specs.Series.{oneOver, factorial, expTerm, expLower, expTail, expUpper}
 use Rattle.exact.specs.laws.Width.{half}
 use Rattle.exact.specs.laws.Exp.{term-mono}
 use Rattle.exact.specs.laws.Reduction.{most-upper, most-mono}
 use Rattle.enclosure.specs.ExpSteps.{low, high, binary, spare, ExpIn}
-use Rattle.enclosure.proofs.Tests.{tested, as-binary}
+use Rattle.enclosure.proofs.ClosedFractions.{tested, as-binary}
 
 -- 1 + y + y²/2, over one denominator
 abbrev quadratic : (r d : ℕ) → 0 < d → Ratio

@@ -6,8 +6,7 @@ use native.Mathlib.Nat.{le-of-mul-le-mul-right, mul-le-mul-right}
 use native.Mathlib.Omega.{arith}
 use Rattle.exact.specs.Fraction.{Ratio, Frac, _⊑_, zeroF, ofRatio, magnitude}
 use Rattle.exact.specs.Series.{expLower}
-use Rattle.exact.specs.Bracket.{_∈_}
-use Rattle.exact.specs.Ends.{expLowerAt, expUpperAt}
+use Rattle.exact.specs.LnExp.{expLowerAt, expUpperAt}
 use Rattle.exact.specs.laws.Decide.{decF, decided}
 use Rattle.exact.specs.laws.Ratio.{≼-refl, ≼-trans}
 use Rattle.exact.specs.laws.Frac.{⊑-refl, ⊑-trans}
@@ -16,6 +15,7 @@ use Rattle.exact.specs.laws.EndsMeet.{signed, ofRatio-mono, Below, exp-below}
 use Rattle.exact.specs.laws.Containment.{AtMost, exp-lower-end}
 use Rattle.exact.specs.laws.Points.{signed-above, signed-most, signed-least}
 use Rattle.exact.specs.laws.Reduction.{Most, Least, LowerEnd, UpperEnd, least-mono, lower-from}
+use Rattle.exact.specs.Holding.{_∈_}
 use Rattle.span.specs.declared.Span.{Span}
 use Rattle.span.specs.Spans.{unit, units, hull, Width}
 use Rattle.fixed.specs.declared.Log.{Log}

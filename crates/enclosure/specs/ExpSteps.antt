@@ -5,7 +5,7 @@ use Prim.Native.Nat.{ℕ, _+_, _*_, _^_, _≤_}
 use lib.Pow.{pow-pos}
 use Rattle.exact.specs.Fraction.{Ratio, _≼_, whole, _⊕_, _⊗_, power}
 use Rattle.exact.specs.laws.Width.{half}
-use Rattle.exact.specs.Ends.{expLowerAt, expUpperAt}
+use Rattle.exact.specs.LnExp.{expLowerAt, expUpperAt}
 use Rattle.exact.specs.laws.Reduction.{Most, Least, LowerEnd, UpperEnd}
 use Rattle.span.specs.declared.Span.{Span}
 use Rattle.span.specs.Spans.{unit, unit-positive, Normal, Width}
@@ -26,10 +26,6 @@ binary m b = record { num = m; den = 2 ^ b; positive = pow-pos b }
 -- a factor that an upper end leaves for the remainder of the N-th bracket: 1 + 2^-33
 unfoldable pub spare : Ratio
 spare = whole 1 ⊕ power half 33
-
--- an entry of a table, one unit wide
-abbrev pub entryOf : ℕ → ℕ → Span
-entryOf m e = record { lo = m; hi = m + 1; e = e }
 
 -- e^y lies in a: its lower end is reached by the sum of t terms, and a bound of all sums, times w, is within its upper end.
 -- D bounds the width in 2^-30, h the exponent
@@ -56,5 +52,5 @@ pub record ExpAt (a b : ℕ) (r : Span) : Type 0 where
 pub record Lowered (x : Span) (d : ℕ) (r : Span) : Type 0 where
   pub hi : r .hi ≡ x .hi
   pub e : r .e ≡ x .e
-  pub below : r .lo * 2 ^ 30 + x .lo * d + 2 ^ 30 ≤ x .lo * 2 ^ 30
+  pub below : r .lo * 2 ^ 30 + x .lo * d + 1 ≤ x .lo * 2 ^ 30
   pub near : x .lo * 2 ^ 30 ≤ r .lo * 2 ^ 30 + x .lo * d + 2 * 2 ^ 30

@@ -5,7 +5,7 @@ use Prim.Native.Nat.{ℕ, _+_, _*_, _-_, _^_, _≤_, _<_}
 use lib.IntN.{ℤ}
 use Rattle.exact.specs.Fraction.{Ratio, Above0, whole, _⊕_, _⊗_, Frac, Positive}
 use Rattle.exact.specs.Series.{gap, seriesLower, seriesUpper}
-use Rattle.exact.specs.Ends.{ln2Lower, ln2Upper}
+use Rattle.exact.specs.LnExp.{ln2Lower, ln2Upper}
 use Rattle.exact.specs.laws.Fixed.{Lower, Upper}
 use Rattle.exact.specs.Bracket.{Bracket}
 use Rattle.span.specs.Spans.{units}
@@ -23,10 +23,10 @@ pub record Third (a b : ℕ) : Type 0 where
   pub fits : b ≤ 2 ^ 32
   pub third : 3 * a ≤ b
 
--- the series at u = a/b: its ends lie from r to r + 13
+-- the series at u = a/b: its ends lie from r to r + 6
 pub record Series (a b r : ℕ) : Type 0 where
   pub below : (z : 0 < b) (n : ℕ) → 20 ≤ n → Lower (2 ^ 30) r (seriesLower (ratio a b z) n)
-  pub above : (z : 0 < b) (n : ℕ) → 20 ≤ n → (h : Above0 (gap (ratio a b z))) → Upper (2 ^ 30) (r + 13) (seriesUpper (ratio a b z) n h)
+  pub above : (z : 0 < b) (n : ℕ) → 20 ≤ n → (h : Above0 (gap (ratio a b z))) → Upper (2 ^ 30) (r + 6) (seriesUpper (ratio a b z) n h)
   pub small : r ≤ 3 * 2 ^ 28
 
 -- k ln 2 and the series
@@ -38,7 +38,7 @@ pub record OctavesOf (k a b : ℕ) : Type 0 where
 pub record Octaves (k a b r : ℕ) : Type 0 where
   pub below : (z : 0 < b) (n : ℕ) → 20 ≤ n → Lower (2 ^ 30) r (whole k ⊗ ln2Lower n ⊕ seriesLower (ratio a b z) n)
   pub above : (z : 0 < b) (n : ℕ) → 20 ≤ n → (h : Above0 (gap (ratio a b z)))
-      → Upper (2 ^ 30) (r + 15) (whole k ⊗ ln2Upper n ⊕ seriesUpper (ratio a b z) n h)
+      → Upper (2 ^ 30) (r + 8) (whole k ⊗ ln2Upper n ⊕ seriesUpper (ratio a b z) n h)
   pub small : r ≤ reach k
 
 -- A logarithm in a word: 2^40 stands for 0
@@ -50,7 +50,7 @@ biased h = fixed h (2 ^ 40)
 unfoldable pub biasedPair : ℕ → ℕ → Bracket
 biasedPair l h = record { lo = biased l; hi = biased h }
 
--- ln at the point m·2^e / 2^1024: its ends lie from h to h + 15
+-- ln at the point m·2^e / 2^1024: its ends lie from h to h + 8
 
 pub record Point (m e : ℕ) : Type 0 where
   pub least : 2 ^ 30 ≤ m
@@ -63,8 +63,8 @@ pub record Sided (e x y r : ℕ) : Type 0 where
   pub below : e < 994 → r ≡ y
 
 pub record LnPoint (m e h : ℕ) : Type 0 where
-  pub ends : (z : Positive (units (m * 2 ^ e))) (n : ℕ) → 20 ≤ n → LnWithin (units (m * 2 ^ e)) z n (biasedPair h (h + 15))
-  pub least : (k : ℕ) → 993 ≤ e + k → 2 ^ 40 ≤ h + (reach k + 15)
+  pub ends : (z : Positive (units (m * 2 ^ e))) (n : ℕ) → 20 ≤ n → LnWithin (units (m * 2 ^ e)) z n (biasedPair h (h + 8))
+  pub least : (k : ℕ) → 993 ≤ e + k → 2 ^ 40 ≤ h + (reach k + 8)
   pub most : (k : ℕ) → e ≤ 994 + k → h ≤ 2 ^ 40 + reach k
 
 -- the slack of a span's lower end: w is (hi - lo)/lo in 2^-30, rounded upward

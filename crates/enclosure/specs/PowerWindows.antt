@@ -7,28 +7,21 @@ use native.Mathlib.Numerals.{add-one}
 use native.Mathlib.Omega.{arith}
 use native.Mathlib.Nat.{mul-le-mul-right}
 use lib.Pow.{pow-pos}
-use Rattle.exact.specs.Fraction.{Ratio, _≼_, Above0, whole, _⊕_, _⊗_, _⊖_, recip, power, Positive, ofRatio}
+use Rattle.exact.specs.Fraction.{Ratio, _≼_, Above0, whole, _⊕_, _⊗_, _⊖_, power, ofRatio}
 use Rattle.exact.specs.Series.{oneOver}
 use Rattle.exact.specs.Formula.{const, powerOf, bracketAt}
 use Rattle.exact.specs.laws.Ratio.{≼-refl, ≼-trans, ⊗-mono, power-mono}
 use Rattle.exact.specs.laws.Width.{half}
 use Rattle.exact.specs.laws.ExpSpread.{slack}
 use Rattle.exact.specs.laws.Containment.{Inside}
-use Rattle.exact.specs.laws.Points.{pair, signed-least, signed-most}
+use Rattle.exact.specs.laws.Points.{pair, signed-least, signed-most, positive-of}
 use Rattle.exact.specs.laws.PowerEnds.{power-ends, less-above, ends-between}
+use Rattle.exact.specs.laws.Quotient.{recip-below}
 use Rattle.span.specs.declared.Span.{Span}
 use Rattle.span.specs.Spans.{unit, units, hull, Normal, Width}
 use Rattle.span.specs.Constants.{unit-by}
 use Rattle.span.specs.Enclosing.{Encloses}
 use Rattle.enclosure.specs.ExpSteps.{low, high}
-
-pub positive-of : (x : Ratio) → Above0 x → Positive (ofRatio x)
-unfolding ofRatio
-positive-of x h = record { above = h .above }
-
-below : (y : Ratio) (m : ℕ) (u : Above0 y) → whole 1 ≼ whole m ⊗ y → recip y u ≼ whole m
-unfolding whole recip _⊗_
-below y m u h = omega arith
 
 -- x lies between 2^-K and 2^K, so that a ln x is below c
 pub record Reached (a x : Ratio) (K c : ℕ) : Type 0 where
@@ -59,7 +52,7 @@ pub power-between : {a x : Ratio} {K c : ℕ} {d D L U : Ratio} (k : ℕ) → 1 
 power-between {a} {x} {K} {c} {d} {D} {L} {U} k o r h n l =
     ends-between a (ofRatio x) k n
     (power-ends a (ofRatio x) (positive-of x (r .above)) K c k n (≼-trans (signed-most x) (r .most))
-    (λ u. below _ _ u (≼-trans (r .least) (⊗-mono (≼-refl (whole (2 ^ K))) (signed-least x)))) (octaves (r .octaves)) l)
+    (λ u. recip-below _ _ u (≼-trans (r .least) (⊗-mono (≼-refl (whole (2 ^ K))) (signed-least x)))) (octaves (r .octaves)) l)
     d D L U (less-above k o)
     (≼-trans (h .from) (power-mono (signed-least x) (a .num))) (≼-trans (power-mono (signed-most x) (a .num)) (h .to)) (h .lower) (h .upper)
   where

@@ -3,8 +3,8 @@
 use Prim.Native.Nat.{ℕ, _+_, _*_, _^_, _≤_, _<_}
 use mathlib.Core.Path.{_≡_}
 use Rattle.exact.specs.Fraction.{Ratio, ofRatio, Frac, Positive}
-use Rattle.exact.specs.Bracket.{_∈_}
 use Rattle.exact.specs.Formula.{Formula, powerOf}
+use Rattle.exact.specs.Holding.{_∈_}
 use Rattle.span.specs.declared.Span.{Span}
 use Rattle.span.specs.Spans.{hull, Normal, Width}
 use Rattle.span.specs.Enclosing.{Encloses}

@@ -74,7 +74,7 @@ pub(crate) fn lowered(x: Span, d: u64) -> Span
     ensures { λ r. ⌜ Lowered x d r ⌝ }
 {
     let q = x.lo * d / 1073741824;
-    let l = x.lo - (q + 2);
+    let l = x.lo - (q + 1);
     Span {
         lo: l,
         hi: x.hi,

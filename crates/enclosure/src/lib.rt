@@ -15,7 +15,7 @@ pub fn ln(t: Span) -> Log
     let h = logarithm::point(t.hi, t.e);
     let w = logarithm::slack(t.lo, t.hi);
     let lo = logarithm::unbiased(h - (w + 1));
-    let hi = logarithm::unbiased(h + 15);
+    let hi = logarithm::unbiased(h + 8);
     Log { lo, hi }
 }
 

@@ -55,7 +55,7 @@ pub(crate) fn point(m: u64, e: u32) -> u64
     let a = side(e, m - 0x4000_0000, 0x8000_0000 - m);
     let b = side(e, 0x4000_0000, 0x8000_0000);
     let x = octaves(k, a, b + m);
-    side(e, 0x100_0000_0000 + x, 0x100_0000_0000 - (x + 15))
+    side(e, 0x100_0000_0000 + x, 0x100_0000_0000 - (x + 8))
 }
 
 // (hi - lo) / lo in 2^-30, rounded upward: no less than ln hi - ln lo.

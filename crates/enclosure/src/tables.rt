@@ -1,8 +1,8 @@
 // Tables of e^: each entry is one unit of 2^-30 wide.
 ghost use mathlib.Core.Path.{_≡_};
 ghost use Prim.Native.Nat.{_<_};
-ghost use Rattle.exact.specs.Fraction.{whole, _⊗_};
-ghost use Rattle.enclosure.specs.ExpSteps.{binary, entryOf, ExpIn};
+ghost use lib.ListN.{getD};
+ghost use Rattle.enclosure.specs.ExpTables.{entryOf, smallTable, sixteenthTable, oneTable, sixteenTable};
 use span::Span;
 
 // From m to m + 1, times 2^e / 2^1024.
@@ -16,7 +16,7 @@ fn entry(m: u32, e: u32) -> Span
 // e^(d / 256)
 pub(crate) fn small(d: u64) -> Span
     requires { ⌜ d < 16 ⌝ }
-    ensures { λ r. ⌜ ExpIn (whole 1) 200 1 994 (whole d ⊗ binary 1 8) r ⌝ }
+    ensures { λ r. ⌜ r ≡ getD smallTable d (entryOf 0 0) ⌝ }
 {
     match d {
         0 => entry(1073741824, 994),
@@ -41,7 +41,7 @@ pub(crate) fn small(d: u64) -> Span
 // e^(d / 16)
 pub(crate) fn sixteenths(d: u64) -> Span
     requires { ⌜ d < 16 ⌝ }
-    ensures { λ r. ⌜ ExpIn (whole 1) 200 1 995 (whole d ⊗ binary 1 4) r ⌝ }
+    ensures { λ r. ⌜ r ≡ getD sixteenthTable d (entryOf 0 0) ⌝ }
 {
     match d {
         0 => entry(1073741824, 994),
@@ -63,10 +63,10 @@ pub(crate) fn sixteenths(d: u64) -> Span
     }
 }
 
-// e^(d)
+// e^d
 pub(crate) fn ones(d: u64) -> Span
     requires { ⌜ d < 16 ⌝ }
-    ensures { λ r. ⌜ ExpIn (whole 1) 400 1 1015 (whole d ⊗ whole 1) r ⌝ }
+    ensures { λ r. ⌜ r ≡ getD oneTable d (entryOf 0 0) ⌝ }
 {
     match d {
         0 => entry(1073741824, 994),
@@ -91,7 +91,7 @@ pub(crate) fn ones(d: u64) -> Span
 // e^(16 d)
 pub(crate) fn sixteens(d: u64) -> Span
     requires { ⌜ d < 32 ⌝ }
-    ensures { λ r. ⌜ ExpIn (whole 1) 10500 1 1709 (whole d ⊗ whole 16) r ⌝ }
+    ensures { λ r. ⌜ r ≡ getD sixteenTable d (entryOf 0 0) ⌝ }
 {
     match d {
         0 => entry(1073741824, 994),

@@ -2,8 +2,8 @@
 use mathlib.Core.Path.{_≡_}
 use Prim.Native.Nat.{ℕ, _+_, _*_, _^_}
 use native.Mathlib.Omega.{arith}
-use Rattle.exact.specs.Bracket.{_∈_}
-use Rattle.exact.specs.laws.Steps.{const-inside}
+use Rattle.exact.specs.laws.Inclusion.{const-inside}
+use Rattle.exact.specs.Holding.{_∈_}
 use Rattle.span.specs.declared.Span.{Span}
 use Rattle.span.specs.Enclosing.{wider}
 use Rattle.fixed.specs.declared.Log.{Log}

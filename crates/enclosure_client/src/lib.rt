@@ -1,6 +1,4 @@
 // The library used from its promises alone: ln 3, e^206 and e^-59, enclosed to 2^-24.
-pub mod exports;
-
 ghost use Rattle.enclosure_client.specs.Known.{Ln3, Power};
 use fixed::Log;
 use span::Span;

@@ -12,11 +12,6 @@ pub record Bracket : Type 0 where
   pub lo : Frac
   pub hi : Frac
 
-infix 40 _∈_
-pub record _∈_ (x : Frac) (B : Bracket) : Type 0 where
-  pub above : B .lo ⊑ x
-  pub below : x ⊑ B .hi
-
 -- the two meet: neither lies wholly above the other
 pub record Meet (A B : Bracket) : Type 0 where
   pub first : A .lo ⊑ B .hi

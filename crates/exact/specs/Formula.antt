@@ -3,7 +3,7 @@ use Prim.Native.Nat.{ℕ, zero, suc}
 use mathlib.Core.Option.{Option, none, some}
 use Rattle.exact.specs.Fraction.{Frac, oneF, _⊞_, _⊟_, _⊠_}
 use Rattle.exact.specs.Bracket.{smaller, Bracket, overPairs, quotients}
-use Rattle.exact.specs.Ends.{lnLowerAt, lnUpperAt, expLowerAt, expUpperAt}
+use Rattle.exact.specs.LnExp.{lnLowerAt, lnUpperAt, expLowerAt, expUpperAt}
 use Rattle.exact.specs.laws.Decide.{decPositives}
 
 pub data Formula : Type 0 where

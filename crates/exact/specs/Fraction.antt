@@ -1,5 +1,6 @@
 -- Fractions from 0 up (`Ratio`) and signed ones (`Frac`), the ends of the brackets of document 01, "What exact means", whose items the other files name by number.
 use Prim.Native.Nat.{ℕ, zero, suc, _+_, _*_, _-_, _≤_, _<_}
+use mathlib.Core.Path.{_≡_}
 use native.Mathlib.Nat.{mul-pos}
 use native.Mathlib.Omega.{arith}
 
@@ -8,11 +9,15 @@ pub record Ratio : Type 0 where
   pub den : ℕ
   pub positive : 0 < den
 
-infix 40 _≼_ _⊑_
+infix 40 _≼_ _≈_ _⊑_
 infixl 60 _⊕_ _⊖_ _⊞_ _⊟_
 infixl 70 _⊗_ _⊠_
 pub record _≼_ (x y : Ratio) : Type 0 where
   pub cross : x .num * y .den ≤ y .num * x .den
+
+-- the same value
+pub record _≈_ (x y : Ratio) : Type 0 where
+  pub cross : x .num * y .den ≡ y .num * x .den
 
 pub record Above0 (x : Ratio) : Type 0 where
   pub above : 0 < x .num

@@ -1,8 +1,8 @@
 pub mod Fraction
 pub mod Bracket
 pub mod Series
-pub mod Ends
+pub mod LnExp
 pub mod Formula
 pub mod Exact
-pub mod Examples
+pub mod Holding
 pub mod laws

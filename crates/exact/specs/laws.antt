@@ -1,5 +1,6 @@
 -- The laws: nothing here need be believed.
 pub mod Positive
+pub mod Tables
 pub mod Decide
 pub mod Ratio
 pub mod Frac
@@ -13,7 +14,7 @@ pub mod Ln
 pub mod EndsMeet
 pub mod Meeting
 pub mod Containment
-pub mod Steps
+pub mod Inclusion
 pub mod Nesting
 pub mod Lipschitz
 pub mod Octaves
@@ -27,8 +28,14 @@ pub mod ExpSpread
 pub mod LogBelow
 pub mod LogAbove
 pub mod Power
-pub mod ByTwo
 pub mod Points
 pub mod PowerEnds
 pub mod Quotient
 pub mod Replacing
+pub mod Nearness
+pub mod Narrowing
+pub mod NarrowingLnExp
+pub mod Later
+pub mod Closing
+pub mod OneValue
+pub mod Examples

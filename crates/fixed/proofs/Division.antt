@@ -10,7 +10,7 @@ use lib.Signed.{mag, leZ, quotZ}
 use mir.Syntax.{w64}
 use mir.Val.{SFits}
 use borrow.Author.Tests.{le-leb, le-ltb}
-use Rattle.fixed.specs.Signed.{floorZ}
+use Rattle.fixed.specs.FloorAndCeiling.{floorZ}
 use Rattle.signed.specs.Reading.{R, back}
 
 fits : {e v : ℤ} → e ≡ v → mag v < 2 ^ 63 → SFits w64 e

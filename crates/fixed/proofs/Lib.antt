@@ -1,5 +1,5 @@
 pub mod Within
-pub mod Words
+pub mod WordSteps
 pub mod Division
 pub mod Sums
 pub mod Scaling

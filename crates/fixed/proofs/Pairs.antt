@@ -6,13 +6,14 @@ use native.Mathlib.Omega.{arith}
 use lib.IntN.{ℤ, pos, negℤ, _*ℤ_, _-ℤ_}
 use lib.Signed.{mag, ltZ, shrZ}
 use Rattle.fixed.specs.declared.Log.{Log}
-use Rattle.fixed.specs.Signed.{floorZ, ceilZ, minZ}
+use Rattle.fixed.specs.FloorAndCeiling.{floorZ, ceilZ, minZ}
 use Rattle.fixed.specs.Logs.{Small}
 use Rattle.fixed.specs.Promises.{LogFactors, LogProduct}
-use Rattle.fixed.specs.Steps.{Coarse, Mirror, Pairs, lowestZ}
-use Rattle.fixed.specs.Parts.{one-sided, neg-up, neg-dn, floor-parts, min-of}
+use Rattle.fixed.specs.ProductSteps.{Coarse, Mirror, Pairs, lowestZ}
+use Rattle.fixed.specs.SignedLaws.{one-sided, neg-up, neg-dn, floor-parts, min-of}
 use Rattle.signed.specs.Reading.{R, back}
-use Rattle.fixed.proofs.Words.{Step, Magnitude, lower-end, upper-end, looser, opposite, quotient, own, returned, opposite-step, shift-step, product-size, product-step}
+use Rattle.signed.specs.Magnitude.{Magnitude, looser, own}
+use Rattle.fixed.proofs.WordSteps.{Step, lower-end, upper-end, opposite, quotient, returned, opposite-step, shift-step, product-size, product-step}
 use Rattle.fixed.proofs.Products.{lowest-of, Around, around, mirrored, law}
 
 -- The smaller of two

@@ -6,15 +6,16 @@ use native.Mathlib.Omega.{arith}
 use lib.IntN.{ℤ, negℤ, _*ℤ_}
 use lib.Pow.{pow-pos}
 use Rattle.exact.specs.Fraction.{Frac, _⊑_, _⊠_}
-use Rattle.exact.specs.Bracket.{Bracket, _∈_, overPairs}
+use Rattle.exact.specs.Bracket.{Bracket, overPairs}
 use Rattle.exact.specs.laws.Frac.{⊑-trans, smaller-glb, larger-lub}
 use Rattle.exact.specs.laws.Pairs.{pairs-hold, ⊠-monotone}
+use Rattle.exact.specs.Holding.{_∈_}
 use Rattle.fixed.specs.declared.Log.{Log}
-use Rattle.fixed.specs.Signed.{up, dn, minZ}
+use Rattle.fixed.specs.FloorAndCeiling.{up, dn, minZ}
 use Rattle.fixed.specs.Logs.{fixed, fixedZ, bracket, Ordered, Narrow, Small}
 use Rattle.fixed.specs.Promises.{LogFactors, LogProduct}
-use Rattle.fixed.specs.Steps.{Coarse, lowestZ}
-use Rattle.fixed.specs.Parts.{one-sided, neg-up, neg-dn, times-parts, Floor, Ceil, floor-parts, ceil-parts, AtMost, min-of, min-left, min-right}
+use Rattle.fixed.specs.ProductSteps.{Coarse, lowestZ}
+use Rattle.fixed.specs.SignedLaws.{one-sided, neg-up, neg-dn, times-parts, Floor, Ceil, floor-parts, ceil-parts, AtMost, min-of, min-left, min-right}
 use Rattle.fixed.proofs.Within.{within, Close, spread}
 
 -- The least product of two ends

@@ -6,10 +6,11 @@ use native.Mathlib.Omega.{arith}
 use lib.IntN.{ℤ, pos, negℤ, _*ℤ_, _-ℤ_}
 use lib.Signed.{shrZ}
 use Rattle.fixed.specs.declared.Log.{Log}
-use Rattle.fixed.specs.Signed.{ceilZ}
+use Rattle.fixed.specs.FloorAndCeiling.{ceilZ}
 use Rattle.fixed.specs.Millis.{Countable, floorMilli, ceilMilli}
 use Rattle.signed.specs.Reading.{R}
-use Rattle.fixed.proofs.Words.{Step, Magnitude, lower-end, upper-end, opposite, quotient, opposite-step, shift-step, multiple-size, multiple-step}
+use Rattle.signed.specs.Magnitude.{Magnitude}
+use Rattle.fixed.proofs.WordSteps.{Step, lower-end, upper-end, opposite, quotient, opposite-step, shift-step, multiple-size, multiple-step}
 
 thousand : {x : ℤ} → Magnitude (2 ^ 50) x → Step (R x *ℤ pos 1000) (x *ℤ pos 1000)
 thousand h = multiple-step (pos 1000) refl h (omega arith) (omega arith)

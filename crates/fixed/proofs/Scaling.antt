@@ -7,11 +7,12 @@ use mir.Syntax.{w64}
 use mir.Val.{toZ}
 use mir.ValLaws.{toZ-pos}
 use Rattle.fixed.specs.declared.Log.{Log}
-use Rattle.fixed.specs.Signed.{floorZ, ceilZ}
+use Rattle.fixed.specs.FloorAndCeiling.{floorZ, ceilZ}
 use Rattle.fixed.specs.Promises.{Scalable, Scaled}
 use Rattle.fixed.specs.Multiples.{scaled}
 use Rattle.signed.specs.Reading.{R}
-use Rattle.fixed.proofs.Words.{Step, Magnitude, lower-end, upper-end, opposite, quotient, returned, opposite-step, multiple-size, multiple-step}
+use Rattle.signed.specs.Magnitude.{Magnitude}
+use Rattle.fixed.proofs.WordSteps.{Step, lower-end, upper-end, opposite, quotient, returned, opposite-step, multiple-size, multiple-step}
 
 module _ {p : ℕ} {a : Log} (s : Scalable p a) where
   factor : toZ w64 p ≡ pos p

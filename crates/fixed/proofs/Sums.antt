@@ -6,13 +6,13 @@ use lib.IntN.{ℤ, _+ℤ_, _-ℤ_}
 use Rattle.exact.specs.Fraction.{_⊑_, _⊞_, _⊟_, neg}
 use Rattle.exact.specs.laws.Frac.{⊑-trans, ⊞-mono, ⊟-mono}
 use Rattle.fixed.specs.declared.Log.{Log}
-use Rattle.fixed.specs.Signed.{up, dn}
+use Rattle.fixed.specs.FloorAndCeiling.{up, dn}
 use Rattle.fixed.specs.Logs.{fixed, bracket}
 use Rattle.fixed.specs.Promises.{Summands, LogSum, LogDifference}
-use Rattle.fixed.specs.Parts.{least, plus-parts, minus-parts}
+use Rattle.fixed.specs.SignedLaws.{least, plus-parts, minus-parts}
 use Rattle.signed.specs.Reading.{R}
-use Rattle.fixed.proofs.Words.{Step, lower-end, upper-end, plus-step, minus-step}
-use Rattle.fixed.specs.Ends.{Adds, sum-below, sum-above}
+use Rattle.fixed.proofs.WordSteps.{Step, lower-end, upper-end, plus-step, minus-step}
+use Rattle.fixed.specs.EndsAsFractions.{Adds, sum-below, sum-above}
 
 plus : (x y : ℤ) {z : ℤ} → z ≡ x +ℤ y → Adds (up x) (dn x) (up y) (dn y) z
 plus x y e = rw e (record { equal = plus-parts x y })

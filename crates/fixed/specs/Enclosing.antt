@@ -8,12 +8,12 @@ use lib.IntN.{pos, negsuc}
 use Rattle.exact.specs.Fraction.{neg, Ratio, Frac, _⊑_, ofRatio, _⊠_}
 use Rattle.exact.specs.laws.Frac.{⊑-trans, ⊠-comm}
 use Rattle.exact.specs.Formula.{Formula, const, add, sub, mul, bracketAt}
-use Rattle.exact.specs.Exact.{Holds}
 use Rattle.exact.specs.laws.Containment.{contains-holds}
-use Rattle.exact.specs.laws.Steps.{binary-inside, const-inside}
+use Rattle.exact.specs.laws.Inclusion.{binary-inside, const-inside}
 use Rattle.exact.specs.laws.Points.{point-inside}
+use Rattle.exact.specs.Holding.{Holds}
 use Rattle.fixed.specs.declared.Log.{Log}
-use Rattle.fixed.specs.Signed.{up, dn}
+use Rattle.fixed.specs.FloorAndCeiling.{up, dn}
 use Rattle.fixed.specs.Logs.{fixed, bracket, Narrow, Small, LogEncloses}
 use Rattle.fixed.specs.Promises.{LogConstant, LogSum, LogDifference, LogProduct, Value, Scaled}
 

@@ -1,9 +1,9 @@
 -- Known values of the definitions, computed: around zero the lower end goes down and the upper end up. Assumes nothing.
 use mathlib.Core.Path.{_≡_, refl}
 use lib.IntN.{pos, negsuc}
-use Rattle.fixed.specs.Signed.{floorZ, ceilZ}
+use Rattle.fixed.specs.FloorAndCeiling.{floorZ, ceilZ}
 use Rattle.fixed.specs.Millis.{floorMilli, ceilMilli}
-use Rattle.fixed.specs.Steps.{lowestZ}
+use Rattle.fixed.specs.ProductSteps.{lowestZ}
 
 -- 7/6 and -7/6
 above-zero : (floorZ (pos 7) 6 ≡ pos 1) × (ceilZ (pos 7) 6 ≡ pos 2)

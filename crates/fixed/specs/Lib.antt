@@ -1,10 +1,10 @@
-pub mod Signed
+pub mod FloorAndCeiling
 pub mod Logs
 pub mod Promises
-pub mod Steps
+pub mod ProductSteps
 pub mod Millis
-pub mod Parts
-pub mod Ends
+pub mod SignedLaws
+pub mod EndsAsFractions
 pub mod Multiples
 pub mod Enclosing
 pub mod Thousandths

@@ -9,7 +9,7 @@ use Rattle.exact.specs.Bracket.{Bracket}
 use Rattle.exact.specs.Formula.{Formula, bracketAt}
 use Rattle.exact.specs.laws.Containment.{Inside}
 use Rattle.fixed.specs.declared.Log.{Log}
-pub use Rattle.fixed.specs.Signed.{up, dn}
+pub use Rattle.fixed.specs.FloorAndCeiling.{up, dn}
 
 -- (a - b) / 2^30
 unfoldable pub fixed : ℕ → ℕ → Frac

@@ -7,11 +7,11 @@ use lib.IntN.{ℤ, pos, _*ℤ_}
 use Rattle.exact.specs.Fraction.{_⊑_}
 use Rattle.exact.specs.laws.Frac.{⊑-trans, scale-mono}
 use Rattle.fixed.specs.declared.Log.{Log}
-use Rattle.fixed.specs.Signed.{up, dn, floorZ, ceilZ}
+use Rattle.fixed.specs.FloorAndCeiling.{up, dn, floorZ, ceilZ}
 use Rattle.fixed.specs.Logs.{bracket, Ordered, Narrow, Small}
 use Rattle.fixed.specs.Promises.{Scaled}
-use Rattle.fixed.specs.Parts.{one-sided, multiple-up, multiple-dn, floor-parts, ceil-parts}
-use Rattle.fixed.specs.Ends.{from-zero, multiple-below, multiple-above}
+use Rattle.fixed.specs.SignedLaws.{one-sided, multiple-up, multiple-dn, floor-parts, ceil-parts}
+use Rattle.fixed.specs.EndsAsFractions.{from-zero, multiple-below, multiple-above}
 
 -- z d ≤ x p < z d + d, for x = xu - xd and z = zu - zd; upward it is the same with the parts exchanged
 pub record Down (p d xu xd zu zd : ℕ) : Type 0 where

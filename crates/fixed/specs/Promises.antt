@@ -3,7 +3,7 @@
 use Prim.Native.Nat.{ℕ, _+_, _*_, _^_, _≤_, _<_}
 use mathlib.Core.Path.{_≡_}
 use Rattle.exact.specs.Fraction.{Frac, _⊞_, _⊟_, _⊠_}
-use Rattle.exact.specs.Bracket.{_∈_}
+use Rattle.exact.specs.Holding.{_∈_}
 use Rattle.fixed.specs.declared.Log.{Log}
 use Rattle.fixed.specs.Logs.{bracket, Ordered, Narrow, Small}
 

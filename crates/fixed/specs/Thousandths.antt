@@ -4,16 +4,15 @@ use mathlib.Core.Path.{_≡_}
 use Prim.Native.Nat.{ℕ, _+_, _*_, _^_, _≤_}
 use native.Mathlib.Omega.{arith}
 use lib.IntN.{ℤ}
-use Rattle.exact.specs.Bracket.{Bracket, Meet}
 use Rattle.exact.specs.Formula.{Formula, bracketAt}
-use Rattle.exact.specs.Exact.{Holds}
 use Rattle.exact.specs.laws.Pairs.{_⊆_}
 use Rattle.exact.specs.laws.Containment.{contains-holds, inside-wider}
+use Rattle.exact.specs.Holding.{Holds}
 use Rattle.fixed.specs.declared.Log.{Log}
-use Rattle.fixed.specs.Signed.{up, dn}
+use Rattle.fixed.specs.FloorAndCeiling.{up, dn}
 use Rattle.fixed.specs.Logs.{fixed, bracket, Ordered, Narrow, Small, LogEncloses}
 use Rattle.fixed.specs.Promises.{Scaled}
-use Rattle.fixed.specs.Millis.{floorMilli, ceilMilli, milli, millis, wholeZ, wholesZ, timesThousand, thousandfold}
+use Rattle.fixed.specs.Millis.{floorMilli, ceilMilli, milli, millis}
 use Rattle.fixed.specs.Multiples.{downward, upward, scaled}
 
 -- l and u are the thousandths of y, and what follows of them
@@ -44,11 +43,6 @@ module _ {y : Log} {l u : ℤ} (v : Ordered y) (d : l ≡ floorMilli y) (e : u �
         small = multiple .small;
       }
 
--- document 01: the interval [l, u] holds a probit, in thousandths
+-- the interval from l to u thousandths holds what the Log encloses
 pub millis-hold : {y : Log} {l u : ℤ} {x : Formula} {n : ℕ} → Thousandths y l u → 1 ≤ n → LogEncloses y x n → Holds (millis l u) x
 millis-hold {x = x} {n = n} t o h = contains-holds x n o _ (inside-wider (bracketAt x n) (t .around) (h .inside))
-
--- meeting in thousandths is meeting
-pub thousandfold-meets : (l u : ℤ) (B : Bracket) → Meet (millis l u) B → Meet (wholesZ l u) (thousandfold B)
-unfolding millis milli wholesZ wholeZ thousandfold timesThousand
-thousandfold-meets l u B m = record { first = record { cross = omega (arith, m .first .cross) }; second = record { cross = omega (arith, m .second .cross) } }

@@ -1,10 +1,10 @@
 // Intervals of real numbers of either sign, in fixed point: both ends are i64 in units of 2^-30, the lower divided downward and the upper upward, around zero.
 ghost use mathlib.Core.Path.{_≡_};
 ghost use Prim.Native.Nat.{_^_};
-ghost use Rattle.fixed.specs.Signed.{floorZ, minZ};
+ghost use Rattle.fixed.specs.FloorAndCeiling.{floorZ, minZ};
 ghost use Rattle.fixed.specs.Logs.{Small};
 ghost use Rattle.fixed.specs.Promises.{Summands, LogSum, LogDifference, LogFactors, LogProduct, Scalable, Scaled};
-ghost use Rattle.fixed.specs.Steps.{Coarse, Mirror, Pairs, lowestZ};
+ghost use Rattle.fixed.specs.ProductSteps.{Coarse, Mirror, Pairs, lowestZ};
 ghost use Rattle.fixed.specs.Millis.{Countable, floorMilli, ceilMilli};
 
 // The numbers from lo / 2^30 to hi / 2^30.

@@ -1,9 +1,8 @@
 -- The bytes that a line of hexadecimal digits spells, either letter case (document 01, "The case frame").
 use Prim.Native.Nat.{ℕ, _+_, _*_, _-_}
-use mathlib.Core.Bool.{Bool, true, _&&_}
+use mathlib.Core.Bool.{Bool, true, _&&_, cond}
 use mathlib.Core.List.{List, [], _∷_}
 use lib.Dec.{leb, ltb}
-use Rattle.guidance.specs.Choice.{pick}
 
 -- least ≤ x ≤ most
 abbrev pub within : (least most x : ℕ) → Bool
@@ -11,7 +10,7 @@ within least most x = leb least x && leb x most
 
 -- the digits 0 to 9, A to F and a to f, in ASCII; of any other character 16, which no digit is worth
 unfoldable pub digitOf : ℕ → ℕ
-digitOf b = pick (within 48 57 b) (b - 48) (pick (within 65 70 b) (b - 55) (pick (within 97 102 b) (b - 87) 16))
+digitOf b = cond (within 48 57 b) (b - 48) (cond (within 65 70 b) (b - 55) (cond (within 97 102 b) (b - 87) 16))
 
 unfoldable pub allDigits : List ℕ → Bool
 allDigits [] = true

@@ -3,5 +3,4 @@ pub mod Bytes
 pub mod Digits
 pub mod Verdicts
 pub mod Spelling
-pub mod KnownCases
 pub mod laws

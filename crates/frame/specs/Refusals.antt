@@ -1,8 +1,10 @@
--- The refusals' numbers and words (document 01, "Refused cases").
+-- The refusals' numbers and words, and the number of a verdict (document 01, "Refused cases").
 use Prim.Native.Nat.{ℕ}
 use mathlib.Core.List.{List, [], _∷_}
 use Rattle.frame.specs.declared.Refusal.{Refusal}
 use Rattle.frame.specs.declared.Refusal.the-variants.{Length, Digit, Substance, Setting, Quantity, Heat, Beyond, Space}
+use Rattle.frame.specs.declared.Verdict.{Verdict}
+use Rattle.frame.specs.declared.Verdict.the-variants.{Accepted, Refused}
 
 abbrev pub number : Refusal → ℕ
 number Length = 1
@@ -14,8 +16,13 @@ number Heat = 6
 number Beyond = 7
 number Space = 8
 
+-- 0 for an accepted case, else the number of its refusal
+abbrev pub code : Verdict → ℕ
+code (Accepted c) = 0
+code (Refused r) = number r
+
 -- each word as its bytes: length, digit, substance, setting, quantity, heat, beyond, space
-unfoldable pub word : Refusal → List ℕ
+abbrev pub word : Refusal → List ℕ
 word Length = 108 ∷ 101 ∷ 110 ∷ 103 ∷ 116 ∷ 104 ∷ []
 word Digit = 100 ∷ 105 ∷ 103 ∷ 105 ∷ 116 ∷ []
 word Substance = 115 ∷ 117 ∷ 98 ∷ 115 ∷ 116 ∷ 97 ∷ 110 ∷ 99 ∷ 101 ∷ []

@@ -1,11 +1,10 @@
 -- The tests in the order of their numbers, and the verdict (document 01, "The case frame", "Refused cases").
 use Prim.Native.Nat.{ℕ}
-use mathlib.Core.Bool.{Bool, false, not, _&&_, _||_}
+use mathlib.Core.Bool.{Bool, false, not, _&&_, _||_, cond}
 use mathlib.Core.List.{List, [], _∷_}
 use lib.ListN.{length}
 use lib.Dec.{eqb, ltb}
 use Rattle.guidance.specs.declared.Case.{Case}
-use Rattle.guidance.specs.Choice.{pick}
 use Rattle.guidance.specs.Substances.{betaOf}
 use Rattle.guidance.specs.Distances.{farther, cube24}
 use Rattle.guidance.specs.Waves.{standardAir}
@@ -61,7 +60,7 @@ tests wrongLength noDigit c room =
 -- the first test that applies refuses the case; a case to which none applies is accepted
 unfoldable pub firstOf : List Test → Case → Verdict
 firstOf [] c = Accepted c
-firstOf ((refusal when applies) ∷ later) c = pick applies (Refused refusal) (firstOf later c)
+firstOf ((refusal when applies) ∷ later) c = cond applies (Refused refusal) (firstOf later c)
 
 -- a frame given as bytes has no test 2
 unfoldable pub frameVerdict : List ℕ → (room : ℕ) → Verdict

@@ -3,4 +3,4 @@ pub mod Limits
 pub mod Spelling
 pub mod Tests
 pub mod Verdicts
-pub mod Known
+pub mod Examples

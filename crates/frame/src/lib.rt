@@ -1,13 +1,14 @@
 // The case frame and the line that spells it: fields, refusals in their order, the verdict.
 ghost use mathlib.Core.Path.{_≡_};
-ghost use mathlib.Core.Bool.{_||_};
-ghost use Prim.Native.Nat.{_+_, _<_};
-ghost use lib.ListN.{length};
-ghost use Rattle.frame.specs.Refusals.{number};
+ghost use mathlib.Core.Bool.{_||_, cond};
+ghost use Prim.Native.Nat.{_+_, _-_, _<_};
+ghost use lib.ListN.{length, replicate};
+ghost use mathlib.Core.List.{_++_};
+ghost use Rattle.frame.specs.Refusals.{number, code, word};
 ghost use Rattle.frame.specs.Bytes.{twoAt, fourAt, fieldsOf};
 ghost use Rattle.frame.specs.Digits.{within, digitOf};
-ghost use Rattle.guidance.specs.Choice.{pick};
-ghost use Rattle.frame.specs.Spelling.{baseOf, Sized, Spelled};
+ghost use Rattle.frame.specs.Spelling.{Spelled};
+ghost use Rattle.frame.specs.laws.Spelling.{baseOf};
 ghost use Rattle.frame.specs.laws.Tests.{caseVerdict};
 ghost use Rattle.frame.specs.Verdicts.{outside, settingOutside, quantityOutside, heatMissing, frameVerdict, lineVerdict};
 use guidance::Case;
@@ -45,6 +46,45 @@ pub fn number_of(r: Refusal) -> u64
         Refusal::Heat => 6,
         Refusal::Beyond => 7,
         Refusal::Space => 8,
+    }
+}
+
+// The refusal's word, filled with zeros to 12 bytes.
+pub fn word_of(r: Refusal) -> [u8; 12]
+    ensures { λ w. ⌜ w ≡ word r ++ replicate (12 - length (word r)) 0 ⌝ }
+{
+    match r {
+        Refusal::Length => [b'l', b'e', b'n', b'g', b't', b'h', 0, 0, 0, 0, 0, 0],
+        Refusal::Digit => [b'd', b'i', b'g', b'i', b't', 0, 0, 0, 0, 0, 0, 0],
+        Refusal::Substance => [
+            b's',
+            b'u',
+            b'b',
+            b's',
+            b't',
+            b'a',
+            b'n',
+            b'c',
+            b'e',
+            0,
+            0,
+            0,
+        ],
+        Refusal::Setting => [b's', b'e', b't', b't', b'i', b'n', b'g', 0, 0, 0, 0, 0],
+        Refusal::Quantity => [b'q', b'u', b'a', b'n', b't', b'i', b't', b'y', 0, 0, 0, 0],
+        Refusal::Heat => [b'h', b'e', b'a', b't', 0, 0, 0, 0, 0, 0, 0, 0],
+        Refusal::Beyond => [b'b', b'e', b'y', b'o', b'n', b'd', 0, 0, 0, 0, 0, 0],
+        Refusal::Space => [b's', b'p', b'a', b'c', b'e', 0, 0, 0, 0, 0, 0, 0],
+    }
+}
+
+// 0 for an accepted case, else the number of its refusal.
+pub fn code_of(v: Verdict) -> u64
+    ensures { λ n. ⌜ n ≡ code v ⌝ }
+{
+    match v {
+        Verdict::Accepted(_) => 0,
+        Verdict::Refused(r) => number_of(r),
     }
 }
 
@@ -94,7 +134,7 @@ fn fields_of(frame: &[u8]) -> Case
 
 // One of two numbers, by a test.
 fn choose(test: bool, a: u64, b: u64) -> u64
-    ensures { λ r. ⌜ r ≡ pick test a b ⌝ }
+    ensures { λ r. ⌜ r ≡ cond test a b ⌝ }
 {
     if test { a } else { b }
 }
@@ -115,11 +155,14 @@ fn digit_of(b: u8) -> u64
     x + 16 - base_of(x)
 }
 
-// The bytes that a line of 44 characters spells, into `frame`; false where a character is no digit.
-fn spell(line: &[u8], frame: &mut [u8; 22]) -> bool
-    requires { ⌜ Sized (now line) (now frame) ⌝ }
-    ensures { λ r. ⌜ Spelled (now (line .entry)) (now (frame .exit)) r ⌝ }
+// The bytes that a line of 44 digits spells, into `frame`; false, and the frame as it was, where the line is no such one.
+pub fn spell(line: &[u8], frame: &mut [u8; 22]) -> bool
+    ensures { λ r. ⌜ Spelled (now (line .entry)) (now (frame .entry)) (now (frame .exit)) r ⌝ }
 {
+    if line.len() != 44 {
+        return false;
+    }
+    let mut bytes = [0u8; 22];
     let mut i = 0;
     while i < 22 {
         let at = 2 * i;
@@ -131,9 +174,10 @@ fn spell(line: &[u8], frame: &mut [u8; 22]) -> bool
         if 15 < low {
             return false;
         }
-        frame[i] = (16 * high + low) as u8;
+        bytes[i] = (16 * high + low) as u8;
         i += 1;
     }
+    *frame = bytes;
     true
 }
 

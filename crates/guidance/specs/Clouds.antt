@@ -1,12 +1,11 @@
 -- From a case to its speed range, energy and front speed (document 01, "From frame to speed range").
 use Prim.Native.Nat.{ℕ, zero, suc, _+_, _*_, _-_, _<_}
-use mathlib.Core.Bool.{Bool, _&&_}
+use mathlib.Core.Bool.{Bool, _&&_, cond}
 use native.Mathlib.Decide.{decLe}
 use native.Mathlib.Omega.{arith}
 use lib.Dec.{eqb, ltb}
 use Rattle.exact.specs.Fraction.{Ratio, whole, _⊗_}
 use Rattle.guidance.specs.declared.Case.{Case}
-use Rattle.guidance.specs.Choice.{pick}
 use Rattle.guidance.specs.Substances.{classOf, heatOf}
 
 -- n/d, for a denominator that is written out
@@ -30,7 +29,7 @@ deflagrates c = ltb 1 (rangeOf c)
 
 -- times 2 on the ground (003, item 11)
 unfoldable pub groundFactor : Case → Ratio
-groundFactor c = pick (eqb (c .placement) 1) (whole 2) (whole 1)
+groundFactor c = cond (eqb (c .placement) 1) (whole 2) (whole 1)
 
 -- times s/c if c > s
 unfoldable pub leanBy : (s c : ℕ) → Dec (s < c) → Ratio
@@ -42,7 +41,7 @@ leanFactor c = leanBy (c .stoichiometric) (c .mean) (decLe (suc (c .stoichiometr
 
 -- times 3/4 for a heterogeneous cloud in ranges 2 to 6
 unfoldable pub aerosolFactor : Case → Ratio
-aerosolFactor c = pick (heterogeneous c && deflagrates c) (over 3 4 (omega arith)) (whole 1)
+aerosolFactor c = cond (heterogeneous c && deflagrates c) (over 3 4 (omega arith)) (whole 1)
 
 -- E in joules, with every factor in it
 unfoldable pub energy : Case → Ratio

@@ -1,10 +1,9 @@
 -- The damage that a probit reads (document 01, "Probits and damage"; 003, Table 3).
-use Prim.Native.Nat.{ℕ, suc, _+_, _*_, _≤_}
-use mathlib.Core.Path.{_≡_}
+use mathlib.Core.Bool.{cond}
+use Prim.Native.Nat.{ℕ, suc, _+_, _*_}
 use mathlib.Core.List.{List, [], _∷_, _++_}
 use lib.Dec.{leb}
 use lib.IntN.{ℤ, pos, negsuc}
-use Rattle.guidance.specs.Choice.{pick}
 
 -- the probits of 1 to 99 percent and of 99.1 to 99.9 percent, in hundredths; 99 is printed twice with one value and stands once
 abbrev pub percents : List ℕ
@@ -29,22 +28,13 @@ table = percents ++ lastTenths
 -- how many entries are not above a probit in thousandths
 abbrev pub notAbove : List ℕ → ℕ → ℕ
 notAbove [] probit = 0
-notAbove (x ∷ xs) probit = pick (leb (10 * x) probit) (suc (notAbove xs probit)) (notAbove xs probit)
+notAbove (x ∷ xs) probit = cond (leb (10 * x) probit) (suc (notAbove xs probit)) (notAbove xs probit)
 
 -- the probability of the n-th entry in tenths of a percent: 0 before the first, 10 to 990 by tens, then 991 to 999
 unfoldable pub tenthsOfPercent : ℕ → ℕ
-tenthsOfPercent n = pick (leb n 99) (10 * n) (891 + n)
+tenthsOfPercent n = cond (leb n 99) (10 * n) (891 + n)
 
 -- the greatest tabulated probability whose probit is not above: the table rises, so that it is that of the last entry counted (laws/Readings, `damage-is-greatest`)
 unfoldable pub damage : ℤ → ℕ
 damage (pos probit) = tenthsOfPercent (notAbove table probit)
 damage (negsuc n) = 0
-
--- two readings that are equal or neighbours in the table, with 0 standing before 1 percent
-pub record Neighbours (lower upper : ℕ) : Type 0 where
-  pub place : ℕ
-  pub step : ℕ
-  pub step-most : step ≤ 1
-  pub within : place + step ≤ 108
-  pub lower-is : lower ≡ tenthsOfPercent place
-  pub upper-is : upper ≡ tenthsOfPercent (place + step)

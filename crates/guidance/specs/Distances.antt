@@ -39,7 +39,3 @@ cube034 = over 39304 1000000 (omega arith)
 
 unfoldable pub cube24 : Ratio
 cube24 = whole 13824
-
--- t/1000000: each of the four in millionths
-abbrev pub millionths : ℕ → Ratio
-millionths t = over t 1000000 (omega arith)

@@ -1,5 +1,4 @@
--- The guidance: definitions to believe, known cases, and laws.
-pub mod Choice
+-- The guidance: definitions to believe, and laws.
 pub mod Substances
 pub mod Clouds
 pub mod Distances
@@ -7,6 +6,5 @@ pub mod Waves
 pub mod Probits
 pub mod Damage
 pub mod Cases
-pub mod Words
-pub mod KnownCases
+pub mod CloudWords
 pub mod laws

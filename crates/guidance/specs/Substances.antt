@@ -1,9 +1,9 @@
 -- The substances (document 01, "Substances"; 003, Table 1, each column read downward): class, β and heat.
+use mathlib.Core.Bool.{cond}
 use Prim.Native.Nat.{ℕ, zero, suc, _*_}
 use mathlib.Core.List.{List, [], _∷_, _++_}
 use lib.ListN.{getD}
 use lib.Dec.{leb}
-use Rattle.guidance.specs.Choice.{pick}
 
 -- β in hundredths; 0 stands for the dash, for no substance has a β of 0
 abbrev pub class1 : List ℕ
@@ -28,7 +28,7 @@ betaOf substance = getD betas substance 0
 
 -- the class; the unlisted substance is of class 1
 unfoldable pub classOf : ℕ → ℕ
-classOf substance = pick (leb substance 10) 1 (pick (leb substance 27) 2 (pick (leb substance 57) 3 4))
+classOf substance = cond (leb substance 10) 1 (cond (leb substance 27) 2 (cond (leb substance 57) 3 4))
 
 -- J/g: the given heat; where it is 0, 440 times β in hundredths
 unfoldable pub heatOf : (substance given : ℕ) → ℕ

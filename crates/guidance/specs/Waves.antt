@@ -1,12 +1,11 @@
 -- Pressure and impulse of the wave as formulas (document 01, "Wave formulas"). `air` is P0 in Pa; a case frame of 22 bytes fixes it.
 use Prim.Native.Nat.{ℕ, _-_}
-use mathlib.Core.Bool.{Bool}
+use mathlib.Core.Bool.{Bool, cond}
 use native.Mathlib.Omega.{arith}
 use lib.Dec.{eqb}
 use Rattle.exact.specs.Fraction.{Ratio, whole, ofRatio, neg}
 use Rattle.exact.specs.Formula.{Formula, powerOf, const, add, sub, mul, div, least, ln, exp, wholePower}
 use Rattle.guidance.specs.declared.Case.{Case}
-use Rattle.guidance.specs.Choice.{pick}
 use Rattle.guidance.specs.Clouds.{over, rangeOf, heterogeneous, deflagrates, energy}
 use Rattle.guidance.specs.Distances.{metres, nearer, cube02, cube025, cube034}
 
@@ -82,27 +81,27 @@ aerosolImpulse x = div (number (thousandths 22)) x
 -- the near field: Rx < 0.2 in a gas, Rx < 0.25 in a heterogeneous cloud; there Px = 18, and Ix is taken at 0.142, or is 0.16
 
 unfoldable pub nearField : (air : ℕ) → Case → Bool
-nearField air c = pick (heterogeneous c) (nearer cube025 air c) (nearer cube02 air c)
+nearField air c = cond (heterogeneous c) (nearer cube025 air c) (nearer cube02 air c)
 
 unfoldable pub detonationPressure : (air : ℕ) → Case → Formula
 detonationPressure air c =
-    pick (nearField air c) (number (whole 18))
-    (pick (heterogeneous c) (aerosolPressure (reducedDistance air c)) (gasPressure (reducedDistance air c)))
+    cond (nearField air c) (number (whole 18))
+    (cond (heterogeneous c) (aerosolPressure (reducedDistance air c)) (gasPressure (reducedDistance air c)))
 
 unfoldable pub detonationImpulse : (air : ℕ) → Case → Formula
 detonationImpulse air c =
-    pick (heterogeneous c)
-    (pick (nearField air c) (number (hundredths 16)) (aerosolImpulse (reducedDistance air c)))
-    (gasImpulse (pick (nearField air c) (number (thousandths 142)) (reducedDistance air c)))
+    cond (heterogeneous c)
+    (cond (nearField air c) (number (hundredths 16)) (aerosolImpulse (reducedDistance air c)))
+    (gasImpulse (cond (nearField air c) (number (thousandths 142)) (reducedDistance air c)))
 
 -- The front speed V: the upper end of ranges 2, 3 and 4; 43 M^(1/6) and 26 M^(1/6) in ranges 5 and 6, M the mass in kg
 
 unfoldable pub frontSpeed : Case → Formula
 frontSpeed c =
-    pick (eqb (rangeOf c) 2) (number (whole 500))
-    (pick (eqb (rangeOf c) 3) (number (whole 300))
-    (pick (eqb (rangeOf c) 4) (number (whole 200))
-    (mul (number (whole (pick (eqb (rangeOf c) 5) 43 26))) (raised sixth (number (over (c .mass) 1000 (omega arith)))))))
+    cond (eqb (rangeOf c) 2) (number (whole 500))
+    (cond (eqb (rangeOf c) 3) (number (whole 300))
+    (cond (eqb (rangeOf c) 4) (number (whole 200))
+    (mul (number (whole (cond (eqb (rangeOf c) 5) 43 26))) (raised sixth (number (over (c .mass) 1000 (omega arith)))))))
 
 -- w = V/C0; g = (σ - 1)/σ, with σ = 7 for gas and 4 for heterogeneous
 
@@ -110,7 +109,7 @@ unfoldable pub machNumber : Case → Formula
 machNumber c = div (frontSpeed c) sound
 
 unfoldable pub expansion : Case → Formula
-expansion c = pick (heterogeneous c) (number (over (4 - 1) 4 (omega arith))) (number (over (7 - 1) 7 (omega arith)))
+expansion c = cond (heterogeneous c) (number (over (4 - 1) 4 (omega arith))) (number (over (7 - 1) 7 (omega arith)))
 
 -- Deflagration, over w, g and R: Px = w²g(0.83/R - 0.14/R²), Ix = wg(1 - 0.4gw)(0.06/R + 0.01/R² - 0.0025/R³)
 
@@ -130,7 +129,7 @@ deflagrationImpulseAt w g x = mul (mul (mul w g) (sub (number (whole 1)) (mul (m
 -- 0.34 stands for Rx where Rx < 0.34
 
 unfoldable pub deflagrationDistance : (air : ℕ) → Case → Formula
-deflagrationDistance air c = pick (nearer cube034 air c) (number (hundredths 34)) (reducedDistance air c)
+deflagrationDistance air c = cond (nearer cube034 air c) (number (hundredths 34)) (reducedDistance air c)
 
 unfoldable pub deflagrationPressure : (air : ℕ) → Case → Formula
 deflagrationPressure air c = deflagrationPressureAt (machNumber c) (expansion c) (deflagrationDistance air c)
@@ -141,10 +140,10 @@ deflagrationImpulse air c = deflagrationImpulseAt (machNumber c) (expansion c) (
 -- Px and Ix: in ranges 2 to 6 the smaller of this and the detonation figure of the same state at the true Rx (004)
 
 unfoldable pub reducedPressure : (air : ℕ) → Case → Formula
-reducedPressure air c = pick (deflagrates c) (least (deflagrationPressure air c) (detonationPressure air c)) (detonationPressure air c)
+reducedPressure air c = cond (deflagrates c) (least (deflagrationPressure air c) (detonationPressure air c)) (detonationPressure air c)
 
 unfoldable pub reducedImpulse : (air : ℕ) → Case → Formula
-reducedImpulse air c = pick (deflagrates c) (least (deflagrationImpulse air c) (detonationImpulse air c)) (detonationImpulse air c)
+reducedImpulse air c = cond (deflagrates c) (least (deflagrationImpulse air c) (detonationImpulse air c)) (detonationImpulse air c)
 
 -- ΔP = Px·P0 in Pa; I = Ix·P0^(2/3)·E^(1/3)/C0 in Pa·s
 

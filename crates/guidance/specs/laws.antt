@@ -1,5 +1,4 @@
 -- The laws: nothing here need be believed.
-pub mod Tables
 pub mod Limits
 pub mod Energies
 pub mod Order

@@ -5,15 +5,15 @@ ghost use Prim.Native.Nat.{_≤_};
 ghost use lib.Dec.{eqb, ltb};
 ghost use Rattle.guidance.specs.Substances.{heatOf};
 ghost use Rattle.guidance.specs.Clouds.{rangeOf};
-ghost use Rattle.guidance.specs.Distances.{nearer, farther, millionths, cube034, cube24};
+ghost use Rattle.guidance.specs.Distances.{nearer, farther, cube034, cube24};
 ghost use Rattle.guidance.specs.Waves.{nearField};
 ghost use Rattle.guidance.specs.Damage.{damage};
 ghost use Rattle.guidance.specs.Cases.{Fields};
-ghost use Rattle.guidance.specs.Words.{Heated, CloudOf, Placed, Compared, joulesOf, weightOf, scaledBy};
+ghost use Rattle.guidance.specs.CloudWords.{Heated, CloudOf, Placed, Compared, joulesOf, weightOf, scaledBy, millionths};
 
+mod arithmetic;
 mod readings;
 mod substances;
-mod words;
 
 // The air pressure of a frame of 22 bytes, Pa (001).
 pub const STANDARD_AIR: u64 = 101300;
@@ -87,8 +87,8 @@ fn joules_of(c: Case) -> u64
     ensures { λ r. ⌜ r ≡ joulesOf c ⌝ }
 {
     let raised = c.mass * heat_of(c);
-    let ground = words::choose(c.placement == 1, 2, 1);
-    let lean = words::choose(c.stoichiometric < c.mean, c.stoichiometric, 1);
+    let ground = arithmetic::choose(c.placement == 1, 2, 1);
+    let lean = arithmetic::choose(c.stoichiometric < c.mean, c.stoichiometric, 1);
     raised * ground * lean
 }
 
@@ -100,7 +100,7 @@ pub fn cloud_of(c: Case) -> Cloud
     let range = range_of(c);
     let aerosol = is_aerosol(c.state, range);
     let joules = joules_of(c);
-    let parts = words::choose(c.stoichiometric < c.mean, c.mean, 1);
+    let parts = arithmetic::choose(c.stoichiometric < c.mean, c.mean, 1);
     Cloud {
         range,
         joules,
@@ -114,7 +114,7 @@ fn weight_of(k: Cloud, air: u64) -> u64
     requires { ⌜ (k .parts ≤ 50000) × (air ≤ 110000) ⌝ }
     ensures { λ r. ⌜ r ≡ weightOf k air ⌝ }
 {
-    air * k.parts * words::choose(k.aerosol, 4, 1)
+    air * k.parts * arithmetic::choose(k.aerosol, 4, 1)
 }
 
 // What the joules are multiplied by: t millionths, times 3 where E takes 3/4.
@@ -122,7 +122,7 @@ fn scaled_by(k: Cloud, t: u64) -> u64
     requires { ⌜ t ≤ 13824000000 ⌝ }
     ensures { λ r. ⌜ r ≡ scaledBy k t ⌝ }
 {
-    t * words::choose(k.aerosol, 3, 1)
+    t * arithmetic::choose(k.aerosol, 3, 1)
 }
 
 // Whether Rx³ is below t millionths.
@@ -130,10 +130,10 @@ fn is_nearer(c: Case, k: Cloud, air: u64, t: u64) -> bool
     requires { ⌜ Compared c k air t ⌝ }
     ensures { λ r. ⌜ r ≡ nearer (millionths t) air c ⌝ }
 {
-    let r3 = words::cube(c.distance);
+    let r3 = arithmetic::cube(c.distance);
     let w = weight_of(k, air);
     let s = scaled_by(k, t);
-    words::is_less(r3, w, k.joules, s)
+    arithmetic::is_less(r3, w, k.joules, s)
 }
 
 // Whether Rx is greater than 24.
@@ -141,10 +141,10 @@ pub fn is_beyond(c: Case, k: Cloud, air: u64) -> bool
     requires { ⌜ Placed c k air ⌝ }
     ensures { λ r. ⌜ r ≡ farther cube24 air c ⌝ }
 {
-    let r3 = words::cube(c.distance);
+    let r3 = arithmetic::cube(c.distance);
     let w = weight_of(k, air);
     let s = scaled_by(k, 13_824_000_000);
-    words::is_less(k.joules, s, r3, w)
+    arithmetic::is_less(k.joules, s, r3, w)
 }
 
 // Whether Rx is below 0.2 in a gas, below 0.25 in a heterogeneous cloud.
@@ -152,7 +152,7 @@ pub fn is_near_field(c: Case, k: Cloud, air: u64) -> bool
     requires { ⌜ Placed c k air ⌝ }
     ensures { λ r. ⌜ r ≡ nearField air c ⌝ }
 {
-    let t = words::choose(c.state == 1, 15_625, 8_000);
+    let t = arithmetic::choose(c.state == 1, 15_625, 8_000);
     is_nearer(c, k, air, t)
 }
 

@@ -1,7 +1,7 @@
 // Readings of Table 3 of 003.
 ghost use mathlib.Core.Path.{_≡_};
 ghost use Rattle.guidance.specs.Damage.{notAbove, table, tenthsOfPercent};
-use crate::words;
+use crate::arithmetic;
 
 // The probits of 1 to 99 percent, then of 99.1 to 99.9 percent, in hundredths (003, Table 3).
 const PROBITS: [u16; 108] = [
@@ -124,7 +124,7 @@ fn rank(t: &[u16; 108], p: u64) -> u64
     let mut hi: usize = 108;
     while lo < hi {
         let mid = (lo + hi) / 2;
-        if 10 * words::widened(t[mid]) <= p {
+        if 10 * arithmetic::widened(t[mid]) <= p {
             lo = mid + 1;
         } else {
             hi = mid;

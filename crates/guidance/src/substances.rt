@@ -1,7 +1,7 @@
 // The substances (003, Table 1): β and class by number.
 ghost use mathlib.Core.Path.{_≡_};
 ghost use Rattle.guidance.specs.Substances.{betaOf, classOf};
-use crate::words;
+use crate::arithmetic;
 
 // β in hundredths by number (003, Table 1); 0 where there is none.
 const BETAS: [u16; 76] = [
@@ -88,7 +88,7 @@ pub fn beta_of(substance: u64) -> u64
 {
     if substance < 76 {
         let n = substance as usize;
-        words::widened(BETAS[n])
+        arithmetic::widened(BETAS[n])
     } else {
         0
     }

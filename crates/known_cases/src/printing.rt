@@ -1,5 +1,4 @@
-// What the program prints: numbers, the ends of intervals, damages, a whole answer.
-ghost use Prim.Native.Nat.{_+_, _<_};
+// What the program prints: numbers, counts with their words, the ends of a figure.
 
 pub(crate) fn print(text: &[u8]) {
     io::write_all(libc::STDOUT_FILENO, text);
@@ -9,73 +8,34 @@ pub(crate) fn print_number(n: u64) {
     io::print_decimal(libc::STDOUT_FILENO, n);
 }
 
-// A count and what it counts.
-pub(crate) fn print_count(n: u64, what: &[u8]) {
-    print_number(n);
-    print(what);
-}
-
-// A word in two's complement.
-fn print_signed(w: u64)
-    requires { ⌜ w < 4294967296 ⌝ }
-{
-    if w < 2147483648 {
-        print_number(w);
-        return;
-    }
-    print(b"-");
-    print_number(4294967296 - w);
-}
-
-fn print_ends(lower: u64, upper: u64)
-    requires { ⌜ (lower < 4294967296) × (upper < 4294967296) ⌝ }
-{
-    print(b" ");
-    print_signed(lower);
-    print(b"..");
-    print_signed(upper);
-}
-
-fn print_interval(area: &[u8; 80], at: usize)
-    requires { ⌜ at + 7 < 80 ⌝ }
-{
-    print_ends(
-        vectors::figures::four(area, at),
-        vectors::figures::four(area, at + 4),
-    );
-}
-
-// The seven intervals of an answer: pressure, impulse, and the five probits in thousandths.
-fn print_intervals(area: &[u8; 80]) {
+// A name, and counts, each behind its words, which stand in a line each.
+pub(crate) fn print_counts(name: &[u8], words: &[u8], counts: &[u64]) {
+    print(name);
+    let mut at = 0;
     let mut i = 0;
-    while i < 7 {
-        print_interval(area, 1 + 8 * i);
+    while i < counts.len() {
+        let end = scan::line_end(words, at);
+        print(&words[at..end]);
+        print_number(counts[i]);
+        at = scan::after(end, words.len());
         i += 1;
     }
-}
-
-fn print_damage(area: &[u8; 80], at: usize)
-    requires { ⌜ at + 3 < 80 ⌝ }
-{
-    print_ends(
-        vectors::figures::two(area, at),
-        vectors::figures::two(area, at + 2),
-    );
-}
-
-// The five pairs of damages, in tenths of a percent.
-fn print_damages(area: &[u8; 80]) {
-    let mut i = 0;
-    while i < 5 {
-        print_damage(area, 57 + 4 * i);
-        i += 1;
-    }
-}
-
-pub(crate) fn print_answer(area: &[u8; 80]) {
-    print(b"\n answered:");
-    print_intervals(area);
-    print(b"\n damage:");
-    print_damages(area);
     print(b"\n");
+}
+
+// An end, of which 200,000 stands for zero.
+fn print_end(n: u64) {
+    if n < 200000 {
+        print(b"-");
+        print_number(200000 - n);
+    } else {
+        print_number(n - 200000);
+    }
+}
+
+pub(crate) fn print_ends(lower: u64, upper: u64) {
+    print(b": ");
+    print_end(lower);
+    print(b"..");
+    print_end(upper);
 }

@@ -1,13 +1,11 @@
--- Numbers as bytes, high byte first, and two's complement in 32 bits (document 01, "The answer frame"). Assumes nothing.
+-- Numbers as two and four bytes, high byte first, and two's complement in 32 bits (document 01, "The answer frame"). Assumes nothing.
 use Prim.Native.Nat.{ℕ, suc, _-_, _/_, _%_, _^_}
 use mathlib.Core.List.{List, [], _∷_, _++_}
 use lib.IntN.{ℤ, pos, negsuc}
 
--- of two bytes
 unfoldable pub two : ℕ → List ℕ
 two v = v / 2 ^ 8 % 256 ∷ v % 256 ∷ []
 
--- of four bytes
 unfoldable pub four : ℕ → List ℕ
 four v = v / 2 ^ 24 % 256 ∷ v / 2 ^ 16 % 256 ∷ v / 2 ^ 8 % 256 ∷ v % 256 ∷ []
 

@@ -1,2 +1,5 @@
 pub mod Bytes
 pub mod Places
+pub mod Fitting
+pub mod Storing
+pub mod laws

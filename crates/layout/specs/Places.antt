@@ -1,7 +1,6 @@
 -- Where each number of an answer stands (document 01, "The answer frame"): range; pressure and impulse; five probits; five damages.
-use Prim.Native.Nat.{ℕ, _^_, _<_}
+use Prim.Native.Nat.{ℕ}
 use mathlib.Core.List.{List, [], _∷_, _++_}
-use lib.Signed.{mag}
 use Rattle.layout.specs.declared.Ends.{Ends}
 use Rattle.layout.specs.declared.Probit.{Probit}
 use Rattle.layout.specs.declared.Probits.{Probits}
@@ -29,15 +28,3 @@ rangeByte range = range ∷ []
 -- the 77 bytes
 unfoldable pub answerBytes : (range : ℕ) (pressure impulse : Ends) (probits : Probits) (damages : Damages) → List ℕ
 answerBytes range p i probits damages = ((rangeByte range ++ waveBytes p i) ++ probitBytes probits) ++ damageBytes damages
-
--- the ends of a probit fit 32 bits in two's complement
-pub record Fits (p : Probit) : Type 0 where
-  pub lower : mag (p .lower) < 2 ^ 31
-  pub upper : mag (p .upper) < 2 ^ 31
-
-pub record Fit (p : Probits) : Type 0 where
-  pub first : Fits (p .first)
-  pub second : Fits (p .second)
-  pub third : Fits (p .third)
-  pub fourth : Fits (p .fourth)
-  pub fifth : Fits (p .fifth)

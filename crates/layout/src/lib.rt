@@ -1,12 +1,14 @@
 // The writers of the answer frame: numbers high byte first, each into a part of the lent area.
-// Every contract gives the whole part at exit: `sets l i bs` is the list l with the bytes bs stored from index i on.
+// Every contract gives all that was lent at exit: `Stored l i bs L` says that L is l with the bytes bs stored from index i on (`sets l i bs`).
 ghost use mathlib.Core.Path.{_≡_};
-ghost use Prim.Native.Nat.{_%_, _^_, _≤_, _<_};
+ghost use Prim.Native.Nat.{_+_, _%_, _^_, _≤_, _<_};
 ghost use lib.ListN.{length};
 ghost use lib.Seq.{sets};
 ghost use lib.Signed.{mag};
-ghost use Rattle.layout.specs.Bytes.{two, four, twos, words, halves};
-ghost use Rattle.layout.specs.Places.{Fits, Fit, probitOf, waveBytes, probitBytes, damageBytes, rangeByte, answerBytes};
+ghost use Rattle.layout.specs.Bytes.{two, four, twos, words};
+ghost use Rattle.layout.specs.Storing.{Stored};
+ghost use Rattle.layout.specs.Fitting.{Fits, Fit};
+ghost use Rattle.layout.specs.Places.{probitOf, waveBytes, probitBytes, damageOf, damageBytes, rangeByte, answerBytes};
 
 // The last eight bits of v.
 fn low_byte(v: u64) -> u8
@@ -15,24 +17,24 @@ fn low_byte(v: u64) -> u8
     (v & 0xff) as u8
 }
 
-// The first two bytes of s become v's.
-fn put_half(s: &mut [u8], v: u64)
-    requires { ⌜ 2 ≤ length (now s) ⌝ }
-    ensures { λ _. ⌜ now (s .exit) ≡ sets (now (s .entry)) 0 (two v) ⌝ }
+// The two bytes of s from `at` on become v's.
+fn put_half(s: &mut [u8], at: usize, v: u64)
+    requires { ⌜ at + 2 ≤ length (now s) ⌝ }
+    ensures { λ _. ⌜ Stored (now (s .entry)) at (two v) (now (s .exit)) ⌝ }
 {
-    s[0] = low_byte(v >> 8);
-    s[1] = low_byte(v);
+    s[at] = low_byte(v >> 8);
+    s[at + 1] = low_byte(v);
 }
 
-// The first four bytes of s become v's.
-fn put_word(s: &mut [u8], v: u64)
-    requires { ⌜ 4 ≤ length (now s) ⌝ }
-    ensures { λ _. ⌜ now (s .exit) ≡ sets (now (s .entry)) 0 (four v) ⌝ }
+// The four bytes of s from `at` on become v's.
+fn put_word(s: &mut [u8], at: usize, v: u64)
+    requires { ⌜ at + 4 ≤ length (now s) ⌝ }
+    ensures { λ _. ⌜ Stored (now (s .entry)) at (four v) (now (s .exit)) ⌝ }
 {
-    s[0] = low_byte(v >> 24);
-    s[1] = low_byte(v >> 16);
-    s[2] = low_byte(v >> 8);
-    s[3] = low_byte(v);
+    s[at] = low_byte(v >> 24);
+    s[at + 1] = low_byte(v >> 16);
+    s[at + 2] = low_byte(v >> 8);
+    s[at + 3] = low_byte(v);
 }
 
 // The 32 bits of x in two's complement.
@@ -46,24 +48,6 @@ fn bits(x: i64) -> u64
         let y = x + 0x1_0000_0000;
         y as u64
     }
-}
-
-// The two ends of a damage, two bytes each.
-fn put_damage(s: &mut [u8], lower: u64, upper: u64)
-    requires { ⌜ 4 ≤ length (now s) ⌝ }
-    ensures { λ _. ⌜ now (s .exit) ≡ sets (now (s .entry)) 0 (halves lower upper) ⌝ }
-{
-    put_half(s, lower);
-    put_half(&mut s[2..], upper);
-}
-
-// The two ends of a pressure or an impulse, four bytes each.
-fn put_ends(s: &mut [u8], lower: u64, upper: u64)
-    requires { ⌜ 8 ≤ length (now s) ⌝ }
-    ensures { λ _. ⌜ now (s .exit) ≡ sets (now (s .entry)) 0 (words lower upper) ⌝ }
-{
-    put_word(s, lower);
-    put_word(&mut s[4..], upper);
 }
 
 // The two ends of an interval: pressure in Pa, impulse in Pa·s, or damage in tenths of a percent.
@@ -96,56 +80,74 @@ pub struct Damages {
     pub fifth: Ends,
 }
 
-// The two ends of a probit in two's complement, four bytes each.
-fn put_probit(s: &mut [u8], p: Probit)
-    requires { ⌜ 8 ≤ length (now s) ⌝ }
-    requires { ⌜ Fits p ⌝ }
-    ensures { λ _. ⌜ now (s .exit) ≡ sets (now (s .entry)) 0 (probitOf p) ⌝ }
+// The two ends of a damage, two bytes each.
+fn put_damage(s: &mut [u8], at: usize, d: Ends)
+    requires { ⌜ at + 4 ≤ length (now s) ⌝ }
+    ensures { λ _. ⌜ Stored (now (s .entry)) at (damageOf d) (now (s .exit)) ⌝ }
 {
-    let l = bits(p.lower);
-    let u = bits(p.upper);
-    put_ends(s, l, u);
+    put_half(s, at, d.lower);
+    put_half(s, at + 2, d.upper);
+}
+
+// The two ends of a pressure or an impulse, four bytes each.
+fn put_ends(s: &mut [u8], at: usize, e: Ends)
+    requires { ⌜ at + 8 ≤ length (now s) ⌝ }
+    ensures { λ _. ⌜ Stored (now (s .entry)) at (words (e .lower) (e .upper)) (now (s .exit)) ⌝ }
+{
+    put_word(s, at, e.lower);
+    put_word(s, at + 4, e.upper);
+}
+
+// The two ends of a probit in two's complement, four bytes each.
+fn put_probit(s: &mut [u8], at: usize, p: Probit)
+    requires { ⌜ at + 8 ≤ length (now s) ⌝ }
+    requires { ⌜ Fits p ⌝ }
+    ensures { λ _. ⌜ Stored (now (s .entry)) at (probitOf p) (now (s .exit)) ⌝ }
+{
+    let lower = bits(p.lower);
+    let upper = bits(p.upper);
+    put_ends(s, at, Ends { lower, upper });
 }
 
 // Pressure and impulse, into their own part of the area.
 fn put_wave(s: &mut [u8], pressure: Ends, impulse: Ends)
     requires { ⌜ 16 ≤ length (now s) ⌝ }
-    ensures { λ _. ⌜ now (s .exit) ≡ sets (now (s .entry)) 0 (waveBytes pressure impulse) ⌝ }
+    ensures { λ _. ⌜ Stored (now (s .entry)) 0 (waveBytes pressure impulse) (now (s .exit)) ⌝ }
 {
-    put_ends(s, pressure.lower, pressure.upper);
-    put_ends(&mut s[8..], impulse.lower, impulse.upper);
+    put_ends(s, 0, pressure);
+    put_ends(s, 8, impulse);
 }
 
 // The five probits, into their own part of the area.
 fn put_probits(s: &mut [u8], p: Probits)
     requires { ⌜ 40 ≤ length (now s) ⌝ }
     requires { ⌜ Fit p ⌝ }
-    ensures { λ _. ⌜ now (s .exit) ≡ sets (now (s .entry)) 0 (probitBytes p) ⌝ }
+    ensures { λ _. ⌜ Stored (now (s .entry)) 0 (probitBytes p) (now (s .exit)) ⌝ }
 {
-    put_probit(s, p.first);
-    put_probit(&mut s[8..], p.second);
-    put_probit(&mut s[16..], p.third);
-    put_probit(&mut s[24..], p.fourth);
-    put_probit(&mut s[32..], p.fifth);
+    put_probit(s, 0, p.first);
+    put_probit(s, 8, p.second);
+    put_probit(s, 16, p.third);
+    put_probit(s, 24, p.fourth);
+    put_probit(s, 32, p.fifth);
 }
 
 // The five damages, into their own part of the area.
 fn put_damages(s: &mut [u8], d: Damages)
     requires { ⌜ 20 ≤ length (now s) ⌝ }
-    ensures { λ _. ⌜ now (s .exit) ≡ sets (now (s .entry)) 0 (damageBytes d) ⌝ }
+    ensures { λ _. ⌜ Stored (now (s .entry)) 0 (damageBytes d) (now (s .exit)) ⌝ }
 {
-    put_damage(s, d.first.lower, d.first.upper);
-    put_damage(&mut s[4..], d.second.lower, d.second.upper);
-    put_damage(&mut s[8..], d.third.lower, d.third.upper);
-    put_damage(&mut s[12..], d.fourth.lower, d.fourth.upper);
-    put_damage(&mut s[16..], d.fifth.lower, d.fifth.upper);
+    put_damage(s, 0, d.first);
+    put_damage(s, 4, d.second);
+    put_damage(s, 8, d.third);
+    put_damage(s, 12, d.fourth);
+    put_damage(s, 16, d.fifth);
 }
 
 // The range, one byte.
 fn put_range(s: &mut [u8], range: u64)
     requires { ⌜ 1 ≤ length (now s) ⌝ }
     requires { ⌜ range < 256 ⌝ }
-    ensures { λ _. ⌜ now (s .exit) ≡ sets (now (s .entry)) 0 (rangeByte range) ⌝ }
+    ensures { λ _. ⌜ Stored (now (s .entry)) 0 (rangeByte range) (now (s .exit)) ⌝ }
 {
     s[0] = range as u8;
 }

@@ -1,5 +1,5 @@
 -- What the verdict on a frame says of the figure that comes back, or does not. Assumes nothing.
-use Prim.Native.Nat.{ℕ, _^_}
+use Prim.Native.Nat.{ℕ}
 use mathlib.Core.Path.{_≡_, refl, sym, subst, _∙_}
 use mathlib.Core.List.{List}
 use lib.Dec.{lit≤}
@@ -11,18 +11,18 @@ use Rattle.layout.specs.declared.Ends.{Ends}
 use Rattle.frame.specs.declared.Verdict.{Verdict}
 use Rattle.frame.specs.declared.Verdict.the-variants.{Accepted, Refused}
 use Rattle.frame.specs.declared.Refusal.{Refusal}
-use Rattle.frame.specs.Refusals.{number}
+use Rattle.frame.specs.Refusals.{number, code}
 use Rattle.frame.specs.Verdicts.{answerLength, frameVerdict}
 use Rattle.frame.specs.laws.Verdicts.{frame-accepted}
-use Rattle.blast.specs.Promises.{Ended}
-use Rattle.linked.specs.Codes.{code, Given, FigureAnswered}
+use Rattle.answer.specs.Answer.{WaveEnds}
+use Rattle.linked.specs.Codes.{Given, FigureAnswered}
 
 module _ (frame : List ℕ) {v : Verdict} (decided : v ≡ frameVerdict frame answerLength) where
   module _ {c : Case} (accepts : v ≡ Accepted c) where
     pub taken : cases.Accepted standardAir c × cases.Air standardAir
     taken = (frame-accepted frame c answerLength (sym decided ∙ accepts) .taken .accepted, record { least = lit≤ tt; most = lit≤ tt })
 
-    pub given : {x : Case → Formula} {lower upper : ℕ} {e : Ends} → Ended (x c) (2 ^ 24) e → FigureAnswered x frame lower upper 0 (e .lower) (e .upper)
+    pub given : {x : Case → Formula} {lower upper : ℕ} {e : Ends} → WaveEnds (x c) e → FigureAnswered x frame lower upper 0 (e .lower) (e .upper)
     given {x} {lower} {upper} {e} ended =
         let due = sym accepts ∙ decided in
         record {

@@ -1,20 +1,14 @@
 -- What the entries for C promise: a verdict as one number, and what was lent as the verdict says.
-use Prim.Native.Nat.{ℕ, _^_}
+use Prim.Native.Nat.{ℕ}
 use mathlib.Core.Path.{_≡_}
 use mathlib.Core.List.{List}
 use Rattle.exact.specs.Formula.{Formula}
 use Rattle.guidance.specs.declared.Case.{Case}
 use Rattle.frame.specs.declared.Verdict.{Verdict}
 use Rattle.frame.specs.declared.Verdict.the-variants.{Accepted, Refused}
-use Rattle.frame.specs.Refusals.{number}
+use Rattle.frame.specs.Refusals.{code}
 use Rattle.frame.specs.Verdicts.{answerLength, frameVerdict}
-use Rattle.blast.specs.Promises.{Ended}
-use Rattle.answer.specs.Answer.{Answered}
-
--- 0 for an accepted case, else the number of its refusal
-abbrev pub code : Verdict → ℕ
-code (Accepted c) = 0
-code (Refused r) = number r
+use Rattle.answer.specs.Answer.{WaveEnds, Answered}
 
 -- an entry's return: the verdict's number, and the area as the verdict says
 pub record Entered (v : Verdict) (n : ℕ) (before after : List ℕ) : Type 0 where
@@ -23,7 +17,7 @@ pub record Entered (v : Verdict) (n : ℕ) (before after : List ℕ) : Type 0 wh
 
 -- by the verdict: an accepted case's figure x in whole units, enclosed within the width rule; a refusal leaves both numbers as they were
 abbrev pub Given : (x : Case → Formula) (v : Verdict) (lower upper lower-after upper-after : ℕ) → Type 0
-Given x (Accepted c) lower upper lower-after upper-after = Ended (x c) (2 ^ 24) (record { lower = lower-after; upper = upper-after })
+Given x (Accepted c) lower upper lower-after upper-after = WaveEnds (x c) (record { lower = lower-after; upper = upper-after })
 Given x (Refused r) lower upper lower-after upper-after = (lower-after ≡ lower) × (upper-after ≡ upper)
 
 -- the verdict on a frame that has room for its answer, so that test 8 never applies

@@ -10,7 +10,7 @@ use Rattle.fixed.specs.Logs.{Narrow, Small}
 use Rattle.fixed.specs.Promises.{Summands, LogSum, LogDifference, Scalable, Scaled}
 use Rattle.fixed.specs.Millis.{floorMilli, ceilMilli}
 use Rattle.signed.specs.Reading.{R}
-use Rattle.fixed.proofs.Words.{own}
+use Rattle.signed.specs.Magnitude.{own}
 use Rattle.fixed.specs.Thousandths.{thousandths, millis-hold}
 use Rattle.fixed.specs.Enclosing.{constant-encloses, sum-encloses, difference-encloses, scaled-encloses, ratio-value, wider, larger}
 use Rattle.enclosure.specs.Promises.{reach, Loggable, Logarithm}
@@ -18,7 +18,7 @@ use Rattle.enclosure.specs.Enclosing.{logarithm-encloses, logarithm-small}
 use Rattle.guidance.specs.Waves.{thousandths as thousandthParts}
 use Rattle.guidance.specs.Probits.{probit4At}
 use Rattle.probits.specs.Promises.{Pressure, Thousandth, Probit4}
-use Rattle.probits.specs.Steps.{Counted, CountedIn, Summed, FallingProbit}
+use Rattle.probits.specs.Terms.{Counted, CountedIn, Summed, FallingProbit}
 use Rattle.probits.specs.Coefficients.{five, minus-twelve-six}
 
 pub counted : {y : Log} {l u : ℤ} → Counted y → l ≡ floorMilli y → u ≡ ceilMilli y → CountedIn y l u

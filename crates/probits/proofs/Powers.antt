@@ -4,7 +4,7 @@ use Prim.Native.Nat.{ℕ, _+_, _*_, _≤_}
 use native.Mathlib.Omega.{arith}
 use Rattle.exact.specs.Fraction.{whole, ofRatio}
 use Rattle.exact.specs.Formula.{const}
-use Rattle.exact.specs.laws.Steps.{const-inside}
+use Rattle.exact.specs.laws.Inclusion.{const-inside}
 use Rattle.span.specs.declared.Span.{Span}
 use Rattle.span.specs.Spans.{hull, wholeF, Width, Whole, Quotient}
 use Rattle.span.specs.Enclosing.{Encloses, quotient-encloses, divisor, wider}
@@ -17,7 +17,7 @@ use Rattle.enclosure.specs.Enclosing.{logarithm-encloses, expo-encloses, logari
 use Rattle.enclosure.specs.PowerWindows.{PowerIn, whole-reached, power-enclosed, power-narrow}
 use Rattle.guidance.specs.Cases.{Air}
 use Rattle.guidance.specs.Waves.{tenths, half}
-use Rattle.probits.specs.Steps.{Based, RatioPower, Rootable, Root, AirRoot}
+use Rattle.probits.specs.Terms.{Based, RatioPower, Rootable, Root, AirRoot}
 
 -- a whole number as the guidance writes it
 pub whole-number : {m : ℕ} {r : Span} → Whole m r → (n : ℕ) → Encloses r (const (ofRatio (whole m))) n

@@ -8,7 +8,7 @@ use Rattle.span.specs.Enclosing.{constant-encloses, product-encloses, quotient-
 use Rattle.guidance.specs.Waves.{hundredths, third}
 use Rattle.guidance.specs.Probits.{probit1At, probit2At, probit3At, probit5At}
 use Rattle.probits.specs.Promises.{Loaded, ProbitOf}
-use Rattle.probits.specs.Steps.{RatioPower, Root, AirRoot, Summed, FallingProbit, Resistance, Lunged, LungPressure}
+use Rattle.probits.specs.Terms.{RatioPower, Root, AirRoot, Summed, FallingProbit, Resistance, Lunged, LungPressure}
 use Rattle.probits.specs.Coefficients.{at, weak-pressure, weak-impulse, strong-pressure, strong-impulse, lung-pressure, one, lung-impulse, throw-pressure, throw-impulse}
 use Rattle.probits.proofs.Powers.{whole-number}
 

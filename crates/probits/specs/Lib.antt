@@ -1,3 +1,3 @@
 pub mod Promises
-pub mod Steps
+pub mod Terms
 pub mod Coefficients

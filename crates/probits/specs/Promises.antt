@@ -3,11 +3,11 @@
 use Prim.Native.Nat.{ℕ, _+_, _^_, _≤_, _<_}
 use lib.IntN.{ℤ}
 use Rattle.exact.specs.Formula.{Formula}
-use Rattle.exact.specs.Exact.{Holds}
+use Rattle.exact.specs.Holding.{Holds}
 use Rattle.span.specs.declared.Span.{Span}
 use Rattle.span.specs.Spans.{Normal, Width}
 use Rattle.span.specs.Enclosing.{Encloses}
-use Rattle.fixed.specs.Signed.{up, dn}
+use Rattle.fixed.specs.FloorAndCeiling.{up, dn}
 use Rattle.fixed.specs.Millis.{millis}
 use Rattle.enclosure.specs.Promises.{enough}
 use Rattle.guidance.specs.Cases.{Air}

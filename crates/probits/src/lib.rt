@@ -1,7 +1,7 @@
 // The five probits from enclosures of overpressure and impulse, in whole thousandths.
 ghost use Rattle.guidance.specs.Cases.{Air};
 ghost use Rattle.probits.specs.Promises.{Pressure, Loaded, Resisting, Probit1, Probit2, Probit3, Probit4, Probit5, AllProbits};
-ghost use Rattle.probits.specs.Steps.{Based, RatioPower, Rootable, Root, AirRoot, Counted, CountedIn, Summed, FallingProbit, Resistance, Lunged, LungPressure};
+ghost use Rattle.probits.specs.Terms.{Based, RatioPower, Rootable, Root, AirRoot, Counted, CountedIn, Summed, FallingProbit, Resistance, Lunged, LungPressure};
 use fixed::Log;
 use layout::Probit;
 use layout::Probits;

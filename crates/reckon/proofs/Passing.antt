@@ -1,27 +1,54 @@
--- One turn of the loop that feeds a part and writes. Assumes nothing.
+-- One turn of the loop that passes a part on. Assumes nothing.
 use Prim.Native.Nat.{ℕ, _+_, _-_, _≤_, _<_}
 use mathlib.Core.Path.{_≡_, refl, _∙_}
-use mathlib.Core.Bool.{true, false}
 use mathlib.Core.List.{List}
 use native.Mathlib.Omega.{arith}
 use lib.ListN.{length, take, drop, length-drop}
-use lib.Seq.{take-add, take-all, length-take-le}
+use lib.Seq.{take-add, take-take, length-take-le}
 use borrow.Rule.Slice.PartMut.{midOf}
 use Rattle.text.specs.declared.Stream.{Stream}
-use Rattle.text.specs.declared.Fed.{Fed}
-use Rattle.text.specs.Streams.{Ready, Reached, Feeds}
+use Rattle.text.specs.Promises.{Ready}
 use Rattle.text.specs.laws.Reaching.{reached-none, reached-append}
-use Rattle.text.specs.laws.Runs.{feeds-progress}
-use Rattle.text.proofs.Behind.{part-to-end, room-from}
+use Rattle.text.specs.laws.Tails.{part-to-end, room-from}
+use Rattle.reckon.specs.declared.Passed.{Passed}
+use Rattle.reckon.specs.Passing.{Past, Relays, Buffers}
+use Rattle.reckon.specs.Reading.{readMost}
 
--- used bytes of the part are fed
 pub record Passing (s : Stream) (part before : List ℕ) (stream : Stream) (used : ℕ) (out : List ℕ) : Type 0 where
-  pub within : used ≤ length part
   pub same : length out ≡ length before
-  pub reached : Reached s (take used part) stream
+  pub past : Past s part used stream
+
+-- what a turn has to hand on: a last line, or the n bytes that were read
+pub last-ready : {s : Stream} {out : List ℕ} → Ready s readMost out → Ready s 1 out
+last-ready ready = record { sound = ready .sound; numbers = omega (arith, ready .numbers); room = ready .room }
+
+pub part-ready
+    : {s : Stream} {input out : List ℕ} →
+    Buffers input out →
+    Ready s readMost out →
+    (read : List ℕ) (n : ℕ) →
+    length read ≡ length input →
+    n ≤ length read →
+    Ready s (length (take n read)) out
+part-ready buffers ready read n same h =
+    record {
+      sound = ready .sound;
+      numbers = omega (arith, ready .numbers, buffers .most, same, h, length-take-le n read h);
+      room = ready .room;
+    }
+
+-- no byte is used
+pub past-none : {s : Stream} (bytes : List ℕ) {n : ℕ} {out : List ℕ} → Ready s n out → Past s bytes 0 s
+past-none {s} bytes ready = record { within = omega arith; reached = reached-none s (ready .sound) }
+
+-- bytes used of a front part are used of the whole
+pub past-front : {s t : Stream} (n : ℕ) (bytes : List ℕ) {used : ℕ} → n ≤ length bytes → Past s (take n bytes) used t → Past s bytes used t
+past-front n bytes {used} h past =
+    let few : used ≤ n = omega (arith, past .within, length-take-le n bytes h) in
+    record { within = omega arith; reached = rw (take-take used n bytes few) at (past .reached) }
 
 pub pass-first : {s : Stream} (part : List ℕ) {before : List ℕ} → Ready s (length part) before → Passing s part before s 0 before
-pass-first {s} part ready = record { within = omega arith; same = refl; reached = reached-none s (ready .sound) }
+pass-first part ready = record { same = refl; past = past-none part ready }
 
 module _
     {s : Stream} {part before : List ℕ} {stream : Stream} {used : ℕ} {out : List ℕ}
@@ -29,33 +56,24 @@ module _
     (so-far : Passing s part before stream used out) where
   pub pass-ready : Ready stream (length (midOf used (length part - used) part)) out
   pass-ready =
+      let past = so-far .past in
       rw (part-to-end used part)
       (record {
-        sound = so-far .reached .sound;
-        numbers =
-            omega
-            (arith, ready .numbers, so-far .reached .lines, so-far .within, length-take-le used part (so-far .within), length-drop used part);
+        sound = past .reached .sound;
+        numbers = omega (arith, ready .numbers, past .reached .lines, past .within, length-take-le used part (past .within), length-drop used part);
         room = omega (arith, ready .room, so-far .same);
       })
 
-  module _ {r : Fed} {after : List ℕ} (fed : Feeds stream (midOf used (length part - used) part) out r after) where
-    pub pass-again : Passing s part before (r .stream) (used + r .used) after
-    pass-again =
-        let f : Feeds stream (drop used part) out r after = rw (part-to-end used part) at fed in
+  module _ {r : Passed} (relayed : Relays stream (midOf used (length part - used) part) r) where
+    pub past-again : Past s part (used + r .used) (r .stream)
+    past-again =
+        let more : Past stream (drop used part) (r .used) (r .stream) = rw (part-to-end used part) at (relayed .past) in
         record {
-          within = omega (arith, so-far .within, f .taken .used, length-drop used part);
-          same = f .taken .same ∙ so-far .same;
+          within = omega (arith, so-far .past .within, more .within, length-drop used part);
           reached =
               rw (take-add used (r .used) part)
-              (reached-append (take used part) (take (r .used) (drop used part)) (so-far .reached) (f .taken .reached));
+              (reached-append (take used part) (take (r .used) (drop used part)) (so-far .past .reached) (more .reached));
         }
 
     pub pass-less : used < length part → length part - (used + r .used) < length part - used
-    pass-less h = omega (arith, feeds-progress pass-ready fed (room-from used part 1 (omega (arith, h))))
-
-  pub pass-last : length part ≤ used → Reached s part stream
-  pass-last h = rw (take-all used part h) at (so-far .reached)
-
--- what was not written was not written
-pub never : {P : Type 0} → false ≡ true → P
-never e = absurd (let z : _≡_ {A = ℕ} 0 1 = cc in omega arith)
+    pass-less h = omega (arith, relayed .goes (room-from used part 1 (omega (arith, h))))

@@ -6,8 +6,9 @@ use native.Mathlib.Omega.{arith}
 use native.Mathlib.Decide.{decLe}
 use lib.Pow.{pow-pos}
 use Rattle.exact.specs.Fraction.{Frac, _⊑_}
-use Rattle.exact.specs.Bracket.{smaller, _∈_}
+use Rattle.exact.specs.Bracket.{smaller}
 use Rattle.exact.specs.laws.Frac.{smaller-left, smaller-right, smaller-glb, ⊑-trans}
+use Rattle.exact.specs.Holding.{_∈_}
 use Rattle.span.specs.declared.Span.{Span}
 use Rattle.span.specs.Spans.{unit, units, hull, Normal, Rel, Smaller, Floor, Ceiling}
 use Rattle.span.specs.Rounding.{ShiftedDown, ShiftedUp, Ratio, Compared}

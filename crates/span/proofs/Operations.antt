@@ -1,19 +1,19 @@
 -- What each operation hands to `norm` may be rounded, and what `norm` promises of it is what the operation promises.
 -- All on plain values: the needs of the functions only cite these. Assumes nothing.
-use mathlib.Core.Path.{_≡_, refl, sym, subst₂, _∙_}
-use Prim.Native.Nat.{ℕ, _+_, _*_, _/_, _-_, _^_, _≤_, _<_}
-use native.Mathlib.Nat.{le-trans, le-of-eq, mul-pos, mul-le-mul, mul-le-mul-right, le-of-mul-le-mul-right}
+use mathlib.Core.Path.{_≡_, refl, sym, ap, subst₂, _∙_}
+use Prim.Native.Nat.{ℕ, zero, suc, _+_, _*_, _/_, _-_, _^_, _≤_, _<_}
+use native.Mathlib.Nat.{le-trans, le-of-eq, mul-pos, mul-le-mul, mul-le-mul-right, le-of-mul-le-mul-right, lt-of-mul-lt-mul-right}
 use native.Mathlib.Omega.{arith}
 use lib.Pow.{pow-pos}
 use Rattle.exact.specs.Fraction.{Frac, _⊑_, _⊞_}
-use Rattle.exact.specs.Bracket.{_∈_}
 use Rattle.exact.specs.laws.Frac.{⊑-trans}
+use Rattle.exact.specs.Holding.{_∈_}
 use Rattle.span.specs.declared.Span.{Span}
-use Rattle.span.specs.Spans.{unit, units, hull, wholeF, Whole, FractionOf, Factors, Product, Divisible, Quotient, Sum}
-use Rattle.span.specs.Rounding.{Roundable, Rounded, ShiftedDown, ShiftedUp, Aligned}
+use Rattle.span.specs.Spans.{unit, unit-positive, units, hull, wholeF, Whole, FractionOf, Factors, Product, Divisible, Quotient, Sum}
+use Rattle.span.specs.Rounding.{Cuttable, Roundable, Rounded, ShiftedDown, ShiftedUp, Aligned}
 use Rattle.span.specs.Enclosing.{wider, divisor}
 use Rattle.span.specs.Bounds.{fraction-in, whole-at, quotient-at}
-use Rattle.span.specs.Powers.{shared, factored, product-high, quotient, quotient-least, quotient-below}
+use Rattle.span.specs.Powers.{powers, shared, factored, product-high, quotient, quotient-least, quotient-below}
 use Rattle.span.proofs.Points.{product-points, quotient-points, sum-points}
 use Rattle.span.proofs.Widths.{product-width, quotient-width, sum-width}
 
@@ -28,6 +28,14 @@ from-units : (x n : ℕ) → n * 2 ^ 1024 ≤ x → n * unit ≤ x
 unfolding unit
 from-units x n h = h
 
+of-units : (x n : ℕ) → x ≤ n * unit → x ≤ n * 2 ^ 1024
+unfolding unit
+of-units x n h = h
+
+in-units : (x n : ℕ) → n * unit ≤ x → n * 2 ^ 1024 ≤ x
+unfolding unit
+in-units x n h = h
+
 whole-in : (n i j : ℕ) → i ≤ n * unit → n * unit ≤ j → wholeF n ∈ record { lo = units i; hi = units j }
 unfolding units wholeF
 whole-in n i j h k = record { above = record { cross = omega arith }; below = record { cross = omega arith } }
@@ -38,10 +46,19 @@ whole-number n r h =
     record {
       normal = h .normal;
       holds = whole-in n _ _ (to-units _ n (h .below)) (from-units _ n (h .above));
+      lower-greatest = λ m l. h .lower-greatest m (of-units _ n l);
+      upper-least = λ m l. h .upper-least m (in-units _ n l);
       width = h .width 0 (record { narrow = omega arith });
       least = λ k l. omega (arith, h .least k l);
       most = λ k l. omega (arith, h .most k l);
     }
+
+-- from 2^t to 2^(t + 2), both in, the highest bit i is t and what stands above it
+highest : (t q h i j : ℕ) → i ≡ t + q → j ≡ 1 + i → 2 ^ t ≤ h → h ≤ 4 * 2 ^ t → q * (2 * 2 ^ t) ≤ h → h < q * (2 * 2 ^ t) + 2 * 2 ^ t → (2 ^ i ≤ h) × (h < 2 ^ j)
+highest t zero h i j ei ej low high below near = (omega (arith, powers t 0 i (omega arith)), omega (arith, powers t 1 j (omega arith)))
+highest t (suc zero) h i j ei ej low high below near = (omega (arith, powers t 1 i (omega arith)), omega (arith, powers t 2 j (omega arith)))
+highest t (suc (suc zero)) h i j ei ej low high below near = (omega (arith, powers t 2 i (omega arith)), omega (arith, powers t 3 j (omega arith)))
+highest t (suc (suc (suc q))) h i j ei ej low high below near = absurd (omega (arith, pow-pos t))
 
 -- Products
 
@@ -58,11 +75,13 @@ pub record Multiplied (a b : Span) (l h e : ℕ) : Type 0 where
 pub product-fits : (a b : Span) → Factors a b → (a .lo * b .lo ≤ a .hi * b .hi) × (a .hi * b .hi ≤ 2 ^ 62)
 product-fits a b f = (mul-le-mul (f .left .ordered) (f .right .ordered), product-high (f .left .most) (f .right .most))
 
-pub product-roundable : (a b : Span) (l h e : ℕ) → Factors a b → Multiplied a b l h e → Roundable l h e
-product-roundable a b l h e f m =
+-- q is what stands above bit 60 of the upper end
+pub product-cuttable : (a b : Span) (l h e q : ℕ) → Factors a b → Multiplied a b l h e → q ≡ h / 2 ^ 61 → Cuttable l h e (30 + q)
+product-cuttable a b l h e q f m eq =
     let low : 2 ^ 60 ≤ a .hi * b .hi = mul-le-mul (f .left .least) (f .right .least) in
     let all = product-fits a b f in
-    record { some = omega arith; fits = omega arith; ordered = omega arith; least = omega arith; most = omega arith }
+    let bit = highest 60 q h (30 + (30 + q)) (31 + (30 + q)) (omega arith) (omega arith) (omega arith) (omega arith) (omega arith) (omega arith) in
+    record { ordered = omega arith; least = bit .0; most = bit .1; few = omega arith; room = omega arith }
 
 pub product-rounded : (a b r : Span) (l u e : ℕ) → Factors a b → Multiplied a b l u e → Rounded l u e r → Product a b r
 unfolding hull
@@ -76,6 +95,10 @@ product-rounded a b r l u e f m n =
           product-points _ _ _ _ _ _
           (le-trans (mul-le-mul-right unit (h .below)) (le-of-eq (joined (a .lo) (b .lo) (a .e) (b .e) e all)))
           (le-trans (le-of-eq (sym (joined (a .hi) (b .hi) (a .e) (b .e) e all))) (mul-le-mul-right unit (h .above)));
+      lower-greatest = λ m l.
+          h .lower-greatest m (le-of-mul-le-mul-right {k = unit} (le-trans l (le-of-eq (sym (joined (a .lo) (b .lo) (a .e) (b .e) e all)))) unit-positive);
+      upper-least = λ m l.
+          h .upper-least m (le-of-mul-le-mul-right {k = unit} (le-trans (le-of-eq (joined (a .hi) (b .hi) (a .e) (b .e) e all)) l) unit-positive);
       width = λ C D v w. wider (omega arith) (h .width (C + D) (product-width _ _ _ _ C D (f .left .ordered) v w));
       least = omega (arith, h .least 60 (mul-le-mul (f .left .least) (f .right .least)));
       most = omega (arith, h .most 63 (omega arith));
@@ -90,9 +113,9 @@ scaled m s f h = shared m 32 f (s + 1024) h ∙ sym (shared m s 1024 (s + 1024) 
 -- l and h are the ends of the quotient in 2^-32
 pub record Divided (a b : Span) (l h : ℕ) : Type 0 where
   pub low-below : l * b .hi ≤ a .lo * 2 ^ 32
-  pub low-near : a .lo * 2 ^ 32 ≤ l * b .hi + b .hi
+  pub low-near : a .lo * 2 ^ 32 < l * b .hi + b .hi
   pub high-above : a .hi * 2 ^ 32 ≤ h * b .lo
-  pub high-near : h * b .lo ≤ a .hi * 2 ^ 32 + b .lo
+  pub high-near : h * b .lo < a .hi * 2 ^ 32 + b .lo
   pub least : 2 ^ 31 ≤ h
   pub most : h < 2 ^ 35
 
@@ -120,11 +143,31 @@ quotient-roundable a b l h d v =
     let in-order : l ≤ h = le-of-mul-le-mul-right {k = b .hi} (omega arith) (omega arith) in
     record { some = omega arith; fits = omega arith; ordered = in-order; least = omega arith; most = omega arith }
 
+-- m at the exponent k of the result, times y·2^f, in the terms of what was divided
+lifted : (m y e f k : ℕ) → e ≤ k → m * 2 ^ k * (y * 2 ^ f) ≡ m * 2 ^ (k - e) * y * 2 ^ (e + f)
+lifted m y e f k h = ap (λ (i : ℕ). i * (y * 2 ^ f)) (sym (shared m (k - e) e k (omega arith))) ∙ factored (m * 2 ^ (k - e)) y e f
+
+-- X is the dividend's end, in 2^-32; l its quotient by y, rounded downward, and h upward
+quotient-greatest : (m X y l e f k Y : ℕ) → e ≤ k → X * 2 ^ (e + f) ≡ Y → X < l * y + y → m * 2 ^ k * (y * 2 ^ f) ≤ Y → m * 2 ^ k ≤ l * 2 ^ e
+quotient-greatest m X y l e f k Y o same near h =
+    let under : m * 2 ^ (k - e) * y ≤ X = le-of-mul-le-mul-right {k = 2 ^ (e + f)} (omega (arith, lifted m y e f k o)) (pow-pos (e + f)) in
+    let less : m * 2 ^ (k - e) < l + 1 = lt-of-mul-lt-mul-right y (omega arith) in
+    let most : m * 2 ^ (k - e) ≤ l = omega arith in
+    omega (arith, shared m (k - e) e k (omega arith), mul-le-mul-right (2 ^ e) most)
+
+quotient-lowest : (m X y h e f k Y : ℕ) → e ≤ k → X * 2 ^ (e + f) ≡ Y → h * y < X + y → Y ≤ m * 2 ^ k * (y * 2 ^ f) → h * 2 ^ e ≤ m * 2 ^ k
+quotient-lowest m X y h e f k Y o same near g =
+    let over : X ≤ m * 2 ^ (k - e) * y = le-of-mul-le-mul-right {k = 2 ^ (e + f)} (omega (arith, lifted m y e f k o)) (pow-pos (e + f)) in
+    let less : h < m * 2 ^ (k - e) + 1 = lt-of-mul-lt-mul-right y (omega arith) in
+    let most : h ≤ m * 2 ^ (k - e) = omega arith in
+    omega (arith, shared m (k - e) e k (omega arith), mul-le-mul-right (2 ^ e) most)
+
 pub quotient-rounded : (a b r : Span) (l h : ℕ) → Divisible a b → Divided a b l h → Rounded l h (a .e + 992 - b .e) r → Quotient a b r
 unfolding hull units
 quotient-rounded a b r l h d v n =
     let e = a .e + 992 - b .e in
     let all : 32 + (e + b .e) ≡ a .e + 1024 = omega arith in
+    let up : e ≤ r .e = omega (arith, n .least 31 (v .least)) in
     record {
       normal = n .normal;
       divisor = record { above = mul-pos {m = b .lo} (omega arith) (pow-pos (b .e)) };
@@ -136,10 +179,12 @@ quotient-rounded a b r l h d v n =
           (le-trans (le-of-eq (sym (scaled (a .hi) (a .e) (e + b .e) all)))
           (le-trans (mul-le-mul-right (2 ^ (e + b .e)) (v .high-above))
           (le-trans (le-of-eq (sym (factored h (b .lo) e (b .e)))) (mul-le-mul-right (b .lo * 2 ^ b .e) (n .above)))));
+      lower-greatest = λ m k. n .lower-greatest m (quotient-greatest m _ (b .hi) l e (b .e) (r .e) _ up (scaled (a .lo) (a .e) (e + b .e) all) (v .low-near) k);
+      upper-least = λ m k. n .upper-least m (quotient-lowest m _ (b .lo) h e (b .e) (r .e) _ up (scaled (a .hi) (a .e) (e + b .e) all) (v .high-near) k);
       width = λ C D c w.
           wider (omega arith)
           (n .width (C + D + 2)
-          (quotient-width (a .lo) (a .hi) (b .lo) (b .hi) l h C D (omega arith) (d .right .ordered) (omega arith) (v .low-near) (v .high-above) (v .high-near) c w));
+          (quotient-width (a .lo) (a .hi) (b .lo) (b .hi) l h C D (omega arith) (d .right .ordered) (omega arith) (omega (arith, v .low-near)) (v .high-above) (omega (arith, v .high-near)) c w));
       least = omega (arith, n .least 31 (v .least));
       most = omega (arith, n .most 35 (v .most));
     }
@@ -176,8 +221,11 @@ module _ {n d : ℕ} {a b : Span} (s : 0 < n) (z : 0 < d) (v : Whole n a) (w : W
 pub moved : (m f e d : ℕ) → f ≡ e + d → m * 2 ^ f ≡ m * 2 ^ d * 2 ^ e
 moved m f e d h = sym (shared m d e f (omega arith))
 
-pub sum-roundable : (a b : Span) (t u l h : ℕ) → Aligned a b → t ≤ b .lo → u ≤ b .hi → t ≤ u → l ≡ a .lo + t → h ≡ a .hi + u → Roundable l h (a .e)
-sum-roundable a b t u l h g lt lu o el eh = omega arith
+-- q is what stands above bit 30 of the upper end
+pub sum-cuttable : (a b : Span) (t u l h q : ℕ) → Aligned a b → t ≤ b .lo → u ≤ b .hi → t ≤ u → l ≡ a .lo + t → h ≡ a .hi + u → q ≡ h / 2 ^ 31 → Cuttable l h (a .e) q
+sum-cuttable a b t u l h q g lt lu o el eh eq =
+    let bit = highest 30 q h (30 + q) (31 + q) refl (omega arith) (omega arith) (omega arith) (omega arith) (omega arith) in
+    record { ordered = omega arith; least = bit .0; most = bit .1; few = omega arith; room = omega arith }
 
 module _ (a b : Span) (t u : ℕ) (g : Aligned a b) (down : ShiftedDown (b .lo) (a .e - b .e) t) (up : ShiftedUp (b .hi) (a .e - b .e) u) where
   pub sum-ordered : t ≤ u

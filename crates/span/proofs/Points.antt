@@ -5,7 +5,8 @@ use native.Mathlib.Nat.{mul-le-mul-right, le-of-mul-le-mul-right}
 use native.Mathlib.Omega.{arith}
 use Rattle.exact.specs.Fraction.{Frac, _⊑_, Positive, zeroF, _⊞_, neg, _⊟_, _⊠_, inverse}
 use Rattle.exact.specs.laws.Frac.{⊑-trans, ⊞-mono, ⊟-mono, ⊠-mono, ⊠-comm, smaller-left, smaller-right, smaller-glb}
-use Rattle.exact.specs.Bracket.{smaller, Bracket, _∈_}
+use Rattle.exact.specs.Bracket.{smaller, Bracket}
+use Rattle.exact.specs.Holding.{_∈_}
 use Rattle.span.specs.Spans.{unit, unit-positive, units}
 
 -- from i to j units

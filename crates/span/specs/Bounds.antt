@@ -6,7 +6,8 @@ use native.Mathlib.Nat.{mul-le-mul-right}
 use native.Mathlib.Omega.{arith}
 use Rattle.exact.specs.Fraction.{Frac, _⊑_, Positive, _⊠_, inverse}
 use Rattle.exact.specs.laws.Frac.{⊑-trans}
-use Rattle.exact.specs.Bracket.{Bracket, _∈_}
+use Rattle.exact.specs.Bracket.{Bracket}
+use Rattle.exact.specs.Holding.{_∈_}
 use Rattle.span.specs.declared.Span.{Span}
 use Rattle.span.specs.Spans.{unit, unit-positive, units, hull, wholeF, fraction, Normal, Rel, Width, Whole, Product, Quotient}
 

@@ -4,7 +4,7 @@ use Prim.Native.Nat.{ℕ, _+_, _*_, _^_, _≤_, _<_}
 use native.Mathlib.Nat.{mul-le-mul-right}
 use native.Mathlib.Omega.{arith}
 use Rattle.exact.specs.Fraction.{Ratio, ofRatio}
-use Rattle.exact.specs.Bracket.{_∈_}
+use Rattle.exact.specs.Holding.{_∈_}
 use Rattle.span.specs.Spans.{unit, units, hull, fraction, Normal, Constant}
 use Rattle.span.specs.Powers.{powers, shared}
 

@@ -8,8 +8,8 @@ use Rattle.exact.specs.Fraction.{Frac}
 use Rattle.exact.specs.Formula.{Formula, const, add, sub, mul, div, least, bracketAt}
 use Rattle.exact.specs.laws.Meeting.{meeting}
 use Rattle.exact.specs.laws.Containment.{Inside, contains-holds}
-use Rattle.exact.specs.Exact.{Holds}
-use Rattle.exact.specs.laws.Steps.{binary-inside, binary-quotient, const-inside}
+use Rattle.exact.specs.laws.Inclusion.{binary-inside, binary-quotient, const-inside}
+use Rattle.exact.specs.Holding.{Holds}
 use Rattle.span.specs.declared.Span.{Span}
 use Rattle.span.specs.Spans.{hull, wholeF, fraction, Normal, Rel, Width, Whole, FractionOf, Constant, Product, Quotient, Sum, Difference, Smaller}
 

@@ -7,3 +7,4 @@ pub mod Wholes
 pub mod Bounds
 pub mod Windows
 pub mod Unary
+pub mod laws

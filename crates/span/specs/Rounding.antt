@@ -6,6 +6,14 @@ use Rattle.span.specs.Spans.{Normal, Rel, Width, Summands}
 
 -- The one rounding
 
+-- the upper end's highest set bit is bit 30 + s
+pub record Cuttable (lo hi e s : ℕ) : Type 0 where
+  pub ordered : lo ≤ hi
+  pub least : 2 ^ (30 + s) ≤ hi
+  pub most : hi < 2 ^ (31 + s)
+  pub few : s ≤ 33
+  pub room : e < 2 ^ 16
+
 pub record Roundable (lo hi e : ℕ) : Type 0 where
   pub some : 0 < hi
   pub fits : hi < 2 ^ 64
@@ -13,10 +21,13 @@ pub record Roundable (lo hi e : ℕ) : Type 0 where
   pub least : 31 ≤ e
   pub most : e < 2 ^ 16
 
+-- the lower end is the floor and the upper the ceiling, at the exponent of the result
 pub record Rounded (lo hi e : ℕ) (r : Span) : Type 0 where
   pub normal : Normal r
   pub below : r .lo * 2 ^ r .e ≤ lo * 2 ^ e
+  pub lower-greatest : (m : ℕ) → m * 2 ^ r .e ≤ lo * 2 ^ e → m ≤ r .lo
   pub above : hi * 2 ^ e ≤ r .hi * 2 ^ r .e
+  pub upper-least : (m : ℕ) → hi * 2 ^ e ≤ m * 2 ^ r .e → r .hi ≤ m
   pub width : (D : ℕ) → Rel lo hi D → Width r (D + 2)
   pub least : (k : ℕ) → 2 ^ k ≤ hi → e + k ≤ r .e + 30
   pub most : (k : ℕ) → hi < 2 ^ k → r .e + 31 ≤ e + k

@@ -1,12 +1,13 @@
 -- What a `Span` stands for, and what each operation promises of it: that it holds every result of what its arguments hold
--- (over the fractions of the theory), how narrow it is, and where its exponent lies. The ends are open but for that; the
--- whole numbers `Floor` and `Ceiling` are not. Assumes nothing.
+-- (over the fractions of the theory), how narrow it is, and where its exponent lies. `lower-greatest` and `upper-least` say that
+-- no span of that exponent is narrower; elsewhere the ends are open but for the width. Assumes nothing.
 use Prim.Native.Nat.{ℕ, _+_, _*_, _-_, _^_, _≤_, _<_}
 use mathlib.Core.Path.{_≡_}
 use lib.Pow.{pow-pos}
 use native.Mathlib.Omega.{arith}
 use Rattle.exact.specs.Fraction.{Frac, Positive, _⊞_, _⊟_, _⊠_, inverse}
-use Rattle.exact.specs.Bracket.{smaller, Bracket, _∈_}
+use Rattle.exact.specs.Bracket.{smaller, Bracket}
+use Rattle.exact.specs.Holding.{_∈_}
 use Rattle.span.specs.declared.Span.{Span}
 
 -- one, in units of 2^-1024; shut, so that omega takes it for an unknown and nothing computes it
@@ -50,6 +51,8 @@ Width a D = Rel (a .lo) (a .hi) D
 pub record Whole (n : ℕ) (r : Span) : Type 0 where
   pub normal : Normal r
   pub holds : wholeF n ∈ hull r
+  pub lower-greatest : (m : ℕ) → m * 2 ^ r .e ≤ n * unit → m ≤ r .lo
+  pub upper-least : (m : ℕ) → n * unit ≤ m * 2 ^ r .e → r .hi ≤ m
   pub width : Width r 2
   pub least : (k : ℕ) → 2 ^ k ≤ n → 994 + k ≤ r .e
   pub most : (k : ℕ) → n < 2 ^ k → r .e ≤ 993 + k
@@ -82,6 +85,8 @@ pub record Factors (a b : Span) : Type 0 where
 pub record Product (a b r : Span) : Type 0 where
   pub normal : Normal r
   pub holds : (p q : Frac) → p ∈ hull a → q ∈ hull b → p ⊠ q ∈ hull r
+  pub lower-greatest : (m : ℕ) → m * 2 ^ r .e * unit ≤ a .lo * 2 ^ a .e * (b .lo * 2 ^ b .e) → m ≤ r .lo
+  pub upper-least : (m : ℕ) → a .hi * 2 ^ a .e * (b .hi * 2 ^ b .e) ≤ m * 2 ^ r .e * unit → r .hi ≤ m
   pub width : (C D : ℕ) → Width a C → Width b D → Width r (C + D + 2)
   pub least : a .e + b .e ≤ r .e + 994
   pub most : r .e + 992 ≤ a .e + b .e
@@ -99,6 +104,8 @@ pub record Quotient (a b r : Span) : Type 0 where
   pub normal : Normal r
   pub divisor : Positive (hull b .lo)
   pub holds : (p q : Frac) → p ∈ hull a → q ∈ hull b → (h : Positive q) → p ⊠ inverse q h ∈ hull r
+  pub lower-greatest : (m : ℕ) → m * 2 ^ r .e * (b .hi * 2 ^ b .e) ≤ a .lo * 2 ^ a .e * unit → m ≤ r .lo
+  pub upper-least : (m : ℕ) → a .hi * 2 ^ a .e * unit ≤ m * 2 ^ r .e * (b .lo * 2 ^ b .e) → r .hi ≤ m
   pub width : (C D : ℕ) → Width a C → Width b D → Width r (C + D + 4)
   pub least : a .e + 993 ≤ r .e + b .e
   pub most : r .e + b .e ≤ a .e + 996

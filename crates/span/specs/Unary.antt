@@ -6,12 +6,13 @@ use mathlib.Core.Option.{Option, none, some}
 use Rattle.exact.specs.Fraction.{Frac, _⊑_, Positive}
 use Rattle.exact.specs.laws.Decide.{decPositives, decided}
 use Rattle.exact.specs.laws.Frac.{positive-mono}
-use Rattle.exact.specs.Bracket.{Bracket, _∈_}
+use Rattle.exact.specs.Bracket.{Bracket}
 use Rattle.exact.specs.laws.Pairs.{lo-in, hi-in}
-use Rattle.exact.specs.Ends.{lnLowerAt, lnUpperAt, expLowerAt, expUpperAt}
+use Rattle.exact.specs.LnExp.{lnLowerAt, lnUpperAt, expLowerAt, expUpperAt}
 use Rattle.exact.specs.Formula.{Formula, ln, exp, bracketAt, lift, _>>_, lnB, expB}
 use Rattle.exact.specs.laws.Meeting.{ends, Meets, meeting}
 use Rattle.exact.specs.laws.Containment.{Inside}
+use Rattle.exact.specs.Holding.{_∈_}
 
 -- the n-th ends of ln p lie in K
 pub record LnWithin (p : Frac) (z : Positive p) (n : ℕ) (K : Bracket) : Type 0 where

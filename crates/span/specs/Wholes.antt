@@ -6,8 +6,8 @@ use lib.Pow.{pow-pos}
 use Rattle.exact.specs.Bracket.{Bracket}
 use Rattle.exact.specs.laws.Pairs.{_⊆_}
 use Rattle.exact.specs.Formula.{Formula, bracketAt}
-use Rattle.exact.specs.Exact.{Holds}
 use Rattle.exact.specs.laws.Containment.{contains-holds, inside-wider}
+use Rattle.exact.specs.Holding.{Holds}
 use Rattle.span.specs.declared.Span.{Span}
 use Rattle.span.specs.Spans.{unit, unit-positive, units, hull, wholeF, Normal, Width, Floor, Ceiling}
 use Rattle.span.specs.Enclosing.{Encloses}
@@ -22,18 +22,10 @@ around f c = record { above = record { cross = omega (arith, f .below) }; below 
 pub wholes-hold : {a : Span} {l u : ℕ} {x : Formula} {n : ℕ} → 1 ≤ n → Floor a l → Ceiling a u → Encloses a x n → Holds (wholes l u) x
 wholes-hold {x = x} {n = n} o f c h = contains-holds x n o _ (inside-wider (bracketAt x n) (around f c) (h .inside))
 
--- the width rule (document 01, "The answer frame")
-pub record Closed (lower upper : ℕ) : Type 0 where
-  pub ordered : lower ≤ upper
-  pub narrow : 10000 * (upper - lower) ≤ 20000 + lower
-
--- the finer rule
+-- at most 2 and a hundred-thousandth of the lower end apart
 pub record Finer (lower upper : ℕ) : Type 0 where
   pub ordered : lower ≤ upper
   pub narrow : 100000 * (upper - lower) ≤ 200000 + lower
-
-pub finer-closed : {l u : ℕ} → Finer l u → Closed l u
-finer-closed h = record { ordered = h .ordered; narrow = omega (arith, h .narrow) }
 
 -- all in units: L and H are the ends of a span, U one
 finer : (D l u L H U : ℕ) → D ≤ 2 ^ 13 → 0 < U → 0 < H → L ≤ H → l * U ≤ L → L < l * U + U → H ≤ u * U → u * U < H + U

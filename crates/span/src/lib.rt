@@ -1,9 +1,9 @@
 // Positive intervals on machine words: two mantissas, one biased exponent, every rounding outward.
-// All operations are exact u64 arithmetic followed by `norm`, the one place that rounds.
+// All operations are exact u64 arithmetic followed by `cut`, the one place that rounds.
 ghost use mathlib.Core.Path.{_≡_};
 ghost use Prim.Native.Nat.{_+_, _*_, _-_, _^_, _≤_, _<_};
 ghost use Rattle.span.specs.Spans.{Normal, Whole, FractionOf, Factors, Product, Divisible, Quotient, Summands, Sum, Floor, Ceiling, Subtractable, Difference, Smaller};
-ghost use Rattle.span.specs.Rounding.{Roundable, Rounded, Aligned, ShiftedDown, ShiftedUp, Ratio, Compared};
+ghost use Rattle.span.specs.Rounding.{Cuttable, Roundable, Rounded, Aligned, ShiftedDown, ShiftedUp, Ratio, Compared};
 
 // The numbers from lo·2^e / 2^1024 to hi·2^e / 2^1024.
 pub struct Span {
@@ -12,7 +12,18 @@ pub struct Span {
     pub e: u32,
 }
 
-// The exact interval from lo·2^e to hi·2^e, rounded outward to mantissas of 31 bits.
+// The exact interval from lo·2^e to hi·2^e without its last s bits, rounded outward: the floor and the ceiling.
+fn cut(lo: u64, hi: u64, e: u32, s: u32) -> Span
+    requires { ⌜ Cuttable lo hi e s ⌝ }
+    ensures { λ r. ⌜ Rounded lo hi e r ⌝ }
+{
+    let l = lo >> s;
+    let h = ((hi - 1) >> s) + 1;
+    let f = e + s;
+    Span { lo: l, hi: h, e: f }
+}
+
+// The exact interval with an upper end of any length, to mantissas of 31 bits.
 fn norm(lo: u64, hi: u64, e: u32) -> Span
     requires { ⌜ Roundable lo hi e ⌝ }
     ensures { λ r. ⌜ Rounded lo hi e r ⌝ }
@@ -26,10 +37,7 @@ fn norm(lo: u64, hi: u64, e: u32) -> Span
         Span { lo: l, hi: h, e: f }
     } else {
         let s = 33 - z;
-        let l = lo >> s;
-        let h = (hi >> s) + 1;
-        let f = e + s;
-        Span { lo: l, hi: h, e: f }
+        cut(lo, hi, e, s)
     }
 }
 
@@ -51,7 +59,7 @@ pub fn fraction(n: u64, d: u64) -> Span
     quo(a, b)
 }
 
-// The product.
+// The product. The highest bit of its upper end is bit 60 or 61, or 62 at 2^31 by 2^31: a shift tells which.
 pub fn mul(a: Span, b: Span) -> Span
     requires { ⌜ Factors a b ⌝ }
     ensures { λ r. ⌜ Product a b r ⌝ }
@@ -59,7 +67,8 @@ pub fn mul(a: Span, b: Span) -> Span
     let l = a.lo * b.lo;
     let h = a.hi * b.hi;
     let e = a.e + b.e - 1024;
-    norm(l, h, e)
+    let t = (h >> 61) as u32;
+    cut(l, h, e, 30 + t)
 }
 
 // The quotient. A multiplication stands for the shift: no bit is lost, and omega reads it.
@@ -106,7 +115,8 @@ fn add_aligned(a: Span, b: Span) -> Span
     let l = a.lo + t;
     let h = a.hi + u;
     let e = a.e;
-    norm(l, h, e)
+    let s = (h >> 31) as u32;
+    cut(l, h, e, s)
 }
 
 // The sum.

@@ -1,25 +1,13 @@
 -- A text that a writer leaves in a part of an area, behind a text that is there. Assumes nothing.
 use Prim.Native.Nat.{ℕ, _+_, _-_, _≤_, _<_}
 use mathlib.Core.Path.{_≡_, refl, _∙_}
-use mathlib.Core.List.{List, [], _∷_, _++_, append-nil}
-use native.Mathlib.Nat.{le-of-eq}
+use mathlib.Core.List.{List, [], _∷_, _++_}
 use native.Mathlib.Omega.{arith}
-use lib.ListN.{length, take, drop, set, length-drop, length-set}
-use lib.Seq.{take-all, drop-length}
-use borrow.Rule.Slice.PartMut.{midOf, postOf, putMid}
+use lib.ListN.{length, set, length-set}
+use borrow.Rule.Slice.PartMut.{midOf, putMid}
 use Rattle.text.specs.Writers.{over, Puts}
 use Rattle.text.specs.laws.Writers.{over-store, over-part}
-
--- a part that goes to the end is what `drop` leaves, and nothing lies after it
-pub part-to-end : (at : ℕ) (l : List ℕ) → midOf at (length l - at) l ≡ drop at l
-part-to-end at l = take-all (length l - at) (drop at l) (le-of-eq (length-drop at l))
-
-none-after : (at : ℕ) (l : List ℕ) → postOf at (length l - at) l ≡ []
-none-after at l = rw (← length-drop at l) (drop-length (drop at l))
-
--- the whole, once the part is back
-pub put-to-end : (at : ℕ) (l part : List ℕ) → putMid at (length l - at) l part ≡ take at l ++ part
-put-to-end at l part = rw (none-after at l, append-nil part)
+use Rattle.text.specs.laws.Tails.{part-to-end, put-to-end, room-from}
 
 pub behind
     : (text more before whole part : List ℕ) (at : ℕ) →
@@ -29,10 +17,6 @@ pub behind
     putMid at (length whole - at) whole part ≡ over (text ++ more) before
 behind text more before whole part at e size w =
     put-to-end at whole part ∙ rw (w, part-to-end at whole, e, size) (over-part text more before)
-
--- the room that a part has
-pub room-from : (at : ℕ) (l : List ℕ) (n : ℕ) → n + at ≤ length l → n ≤ length (midOf at (length l - at) l)
-room-from at l n h = rw (part-to-end at l) (omega (arith, length-drop at l))
 
 pub room-behind : (tag : ℕ) (before : List ℕ) (n : ℕ) → n + 1 ≤ length before → n ≤ length (midOf 1 (length (set before 0 tag) - 1) (set before 0 tag))
 room-behind tag before n h = room-from 1 (set before 0 tag) n (omega (arith, length-set before 0 tag))

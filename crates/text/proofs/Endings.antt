@@ -6,7 +6,7 @@ use lib.ListN.{take}
 use Rattle.text.specs.declared.Stream.{Stream}
 use Rattle.text.specs.laws.Caps.{record-capped}
 use Rattle.text.specs.Writers.{Printed}
-use Rattle.text.specs.Parts.{Held, Ends}
+use Rattle.text.specs.Feeding.{Held, Ends}
 
 -- what is cut off later may be cut off at once
 pub take-cap : (n : ℕ) (p q : List ℕ) → take n (take n p ++ q) ≡ take n (p ++ q)

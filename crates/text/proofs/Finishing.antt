@@ -11,11 +11,12 @@ use Rattle.text.specs.declared.Stream.{Stream}
 use Rattle.text.specs.Lines.{lastLine}
 use Rattle.text.specs.laws.Reaching.{stands-itself}
 use Rattle.text.specs.laws.Texts.{text-one}
-use Rattle.text.specs.Streams.{Stands, Ready, Finishes}
-use Rattle.text.specs.Parts.{Ends}
+use Rattle.text.specs.Streams.{Stands}
+use Rattle.text.specs.Promises.{Ready, Finishes}
+use Rattle.text.specs.Feeding.{Ends}
 use Rattle.text.specs.Records.Text.{none}
 use Rattle.text.proofs.Endings.{none-before}
-use Rattle.text.proofs.Steps.{puts-taken, puts-others}
+use Rattle.text.proofs.LineTaken.{puts-taken, puts-others}
 
 -- no characters, no line
 pub finished-none : {s : Stream} (before : List ℕ) → s .held ≡ 0 → Finishes s before 0 before

@@ -2,9 +2,9 @@ mod Decimals
 mod Hexadecimals
 mod Scans
 mod Holds
-pub mod Behind
+mod Behind
 mod Pieces
 mod Endings
-mod Steps
-mod Turns
+mod LineTaken
+mod Feeding
 mod Finishing

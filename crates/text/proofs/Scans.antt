@@ -8,7 +8,7 @@ use native.Mathlib.Omega.{arith}
 use lib.ListN.{length, getD, drop, drop-of-length-le}
 use lib.Seq.{drop-cons}
 use Rattle.text.specs.Lines.{lf}
-use Rattle.text.specs.Parts.{endOf}
+use Rattle.text.specs.Feeding.{endOf}
 use Rattle.text.specs.laws.Lines.{endOf-none, endOf-lf, endOf-character}
 
 -- the first i bytes are characters

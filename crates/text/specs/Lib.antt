@@ -3,6 +3,7 @@ pub mod Digits
 pub mod Records
 pub mod Streams
 pub mod Runs
+pub mod Promises
 pub mod Writers
-pub mod Parts
+pub mod Feeding
 pub mod laws

@@ -1,12 +1,11 @@
--- What a stream stands for, and what feeding it promises.
-use Prim.Native.Nat.{ℕ, suc, _+_, _*_, _^_, _≤_, _<_}
+-- What a stream stands for, and the text that is due after it.
+use Prim.Native.Nat.{ℕ, suc, _+_, _≤_}
 use mathlib.Core.Path.{_≡_}
 use mathlib.Core.List.{List}
-use lib.ListN.{length, take, drop}
+use lib.ListN.{length, take}
 use Rattle.text.specs.declared.Stream.{Stream}
-use Rattle.text.specs.declared.Fed.{Fed}
 use Rattle.text.specs.Lines.{ended, left, lastLine}
-use Rattle.text.specs.Records.{Text, longest}
+use Rattle.text.specs.Records.{Text}
 
 -- at most 45 characters are held, in an array of 45
 pub record Sound (s : Stream) : Type 0 where
@@ -19,12 +18,6 @@ pub record Stands (s : Stream) (lines : ℕ) (p : List ℕ) : Type 0 where
   pub counted : s .lines ≡ lines
   pub held : take (s .held) (s .line) ≡ take 45 p
 
--- the numbers of n more lines fit, and there is room for a record
-pub record Ready (s : Stream) (n : ℕ) (out : List ℕ) : Type 0 where
-  pub sound : Sound s
-  pub numbers : s .lines + n < 2 ^ 64
-  pub room : longest ≤ length out
-
 -- t is s after these bytes of the input
 pub record Reached (s : Stream) (bytes : List ℕ) (t : Stream) : Type 0 where
   pub sound : Sound t
@@ -32,25 +25,10 @@ pub record Reached (s : Stream) (bytes : List ℕ) (t : Stream) : Type 0 where
   pub stands
       : (lines : ℕ) (p : List ℕ) → Stands s lines p → Stands t (lines + length (ended p bytes)) (left p bytes)
 
--- used bytes of a part have been taken, the text of the lines that end there stands in the area, whose other bytes are as they were
-pub record Taken (s : Stream) (part before : List ℕ) (r : Fed) (after : List ℕ) : Type 0 where
-  pub used : r .used ≤ length part
-  pub written : r .written ≤ length before
-  pub same : length after ≡ length before
-  pub text
-      : (lines : ℕ) (p : List ℕ) → Stands s lines p → Text (suc lines) (ended p (take (r .used) part)) (take (r .written) after)
-  pub others : drop (r .written) after ≡ drop (r .written) before
-  pub reached : Reached s (take (r .used) part) (r .stream)
-  pub begun : r .written ≤ longest * r .used
+-- the text is that of the lines that end in these bytes after s
+abbrev pub Tells : (s : Stream) (bytes text : List ℕ) → Type 0
+Tells s bytes text = (lines : ℕ) (p : List ℕ) → Stands s lines p → Text (suc lines) (ended p bytes) text
 
--- besides, the part is used up, or the area has no room for another record
-pub record Feeds (s : Stream) (part before : List ℕ) (r : Fed) (after : List ℕ) : Type 0 where
-  pub taken : Taken s part before r after
-  pub full : r .used < length part → length before < r .written + longest
-
--- the text of a last line that no LF ends stands in the area, whose other bytes are as they were
-pub record Finishes (s : Stream) (before : List ℕ) (r : ℕ) (after : List ℕ) : Type 0 where
-  pub written : r ≤ length before
-  pub same : length after ≡ length before
-  pub text : (lines : ℕ) (p : List ℕ) → Stands s lines p → Text (suc lines) (lastLine p) (take r after)
-  pub others : drop r after ≡ drop r before
+-- the text is that of the last line, which no LF ends
+abbrev pub TellsLast : (s : Stream) (text : List ℕ) → Type 0
+TellsLast s text = (lines : ℕ) (p : List ℕ) → Stands s lines p → Text (suc lines) (lastLine p) text

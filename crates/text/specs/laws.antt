@@ -2,9 +2,11 @@
 pub mod Settled
 pub mod Lines
 pub mod Digits
+pub mod Tails
 pub mod Writers
 pub mod Texts
 pub mod Caps
+pub mod Refusals
 pub mod Reaching
 pub mod Runs
 pub mod Examples

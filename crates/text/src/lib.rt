@@ -1,8 +1,9 @@
 // The lines of an input that comes in parts, and the records of the output.
 ghost use mathlib.Core.List.{[]};
 ghost use lib.ListN.{length};
-ghost use Rattle.text.specs.Streams.{Stands, Ready, Feeds, Finishes};
-ghost use Rattle.text.specs.Parts.{Ends, Steps};
+ghost use Rattle.text.specs.Streams.{Stands};
+ghost use Rattle.text.specs.Promises.{Ready, Feeds, Finishes};
+ghost use Rattle.text.specs.Feeding.{Ends, Steps};
 
 mod digits;
 mod lines;

@@ -1,7 +1,7 @@
 // Where a line ends, and the characters of a line that is not whole yet.
 ghost use Prim.Native.Nat.{_-_};
 ghost use mathlib.Core.Path.{_≡_};
-ghost use Rattle.text.specs.Parts.{endOf, Held};
+ghost use Rattle.text.specs.Feeding.{endOf, Held};
 ghost use Rattle.text.specs.Streams.{Sound};
 use crate::Stream;
 

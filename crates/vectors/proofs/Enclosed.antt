@@ -1,4 +1,4 @@
--- The tests of an interval: by the whole part of the value and its rest, by the width, by an entry of the table. Assumes nothing.
+-- The tests of an interval: by the whole part of the value and its rest, by an entry of the table. Assumes nothing.
 use Prim.Native.Nat.{ℕ, _+_, _-_, _*_, _/_, _%_, _≤_, _<_}
 use mathlib.Core.Path.{_≡_, sym}
 use mathlib.Core.Bool.{Bool, true, false}
@@ -6,7 +6,7 @@ use native.Mathlib.Omega.{arith}
 use native.Mathlib.Nat.{div-add-mod', mul-le-mul-right, mod-lt}
 use lib.Dec.{leb, ltb}
 use borrow.Author.Tests.{leb-true, leb-false, ltb-true, ltb-false, le-leb, lt-leb}
-use Rattle.vectors.specs.Figures.{contained, closed, reached}
+use Rattle.vectors.specs.Figures.{contained, reached}
 
 -- a test whose two answers decide another
 module _ (c d : ℕ) where
@@ -44,14 +44,6 @@ module _ (lower upper value unit : ℕ) (positive : 0 < unit) where
         simp (le-leb _ _ above-lower) (same-ltb value (upper * unit) (value / unit) upper
         (λ h. omega (arith, div-add-mod' value unit, mod-lt value positive, mul-le-mul-right {m = value / unit + 1} {n = upper} unit (omega arith)))
         (λ h. omega (arith, div-add-mod' value unit, mul-le-mul-right unit h)))
-
-pub not-closed : (lower upper : ℕ) → upper < lower → false ≡ closed lower upper
-unfolding closed
-not-closed lower upper h = simp (lt-leb _ _ h)
-
-pub width-closed : (lower upper : ℕ) → lower ≤ upper → leb (10000 * upper) (20000 + lower + 10000 * lower) ≡ closed lower upper
-unfolding closed
-width-closed lower upper h = simp (le-leb _ _ h)
 
 pub not-reached : (hundredths probit : ℕ) → probit < 200000 → false ≡ reached hundredths probit
 unfolding reached

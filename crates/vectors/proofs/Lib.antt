@@ -1,6 +1,6 @@
 -- What several proofs cite.
+pub mod Compound
 pub mod Enclosed
-pub mod Folds
 pub mod Raised
-pub mod Words
-pub mod Worths
+pub mod Texts
+pub mod Turns

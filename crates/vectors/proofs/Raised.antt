@@ -6,7 +6,7 @@ use mathlib.Core.List.{List}
 use native.Mathlib.Omega.{arith}
 use lib.ListN.{getD}
 use borrow.Author.Tests.{lt-ltb, le-ltb, eq-eqb, ne-eqb}
-use Rattle.vectors.specs.Figures.{raisedWord, raisedValue, reached, rankFrom, rank, tenthsAt}
+use Rattle.vectors.specs.Figures.{raisedWord, raised, reached, rankFrom, rank, tenthsAt}
 
 module _ (w : ℕ) where
   pub word-above : w < 2147483648 → w + 200000 ≡ raisedWord w
@@ -17,13 +17,13 @@ module _ (w : ℕ) where
   unfolding raisedWord
   word-below h = simp (le-ltb _ _ h)
 
-module _ (lead value : ℕ) where
-  pub value-above : (lead ≡ 45 → ⊥) → 200000000000000 + value ≡ raisedValue lead value
-  unfolding raisedValue
+module _ (base lead value : ℕ) where
+  pub value-above : (lead ≡ 45 → ⊥) → base + value ≡ raised base lead value
+  unfolding raised
   value-above h = simp (ne-eqb _ _ h)
 
-  pub value-below : lead ≡ 45 → 200000000000000 - value ≡ raisedValue lead value
-  unfolding raisedValue
+  pub value-below : lead ≡ 45 → base - value ≡ raised base lead value
+  unfolding raised
   value-below h = simp (eq-eqb _ _ h)
 
 -- the first n pairs are reached

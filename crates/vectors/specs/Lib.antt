@@ -1,5 +1,4 @@
--- What the test program's functions promise of the data that they read and the figures that they hold against it.
-pub mod Scan
+-- What the test program's answers are judged by.
 pub mod Figures
-pub mod Sums
-pub mod laws
+pub mod Judging
+pub mod Bounds

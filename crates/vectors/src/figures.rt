@@ -3,25 +3,24 @@ ghost use mathlib.Core.Path.{_≡_};
 ghost use mathlib.Core.Bool.{_&&_};
 ghost use Prim.Native.Nat.{_+_, _≤_, _<_};
 ghost use Rattle.frame.specs.Bytes.{twoAt, fourAt};
-ghost use Rattle.vectors.specs.Scan.{largest};
-ghost use Rattle.vectors.specs.Figures.{contained, closed, waveRight, raisedWord, raisedValue, probitRight, reached, rank, tenthsAt, damageRight, right};
-use crate::scan;
+ghost use Rattle.scan.specs.Words.{largest};
+ghost use Rattle.vectors.specs.Figures.{contained, closed, waveRight, raisedWord, raised as Figures·raised, probitRight, reached, rank, tenthsAt, damageRight, right};
 
-pub fn two(area: &[u8; 80], at: usize) -> u64
+pub(crate) fn two(area: &[u8; 80], at: usize) -> u64
     requires { ⌜ at + 1 < 80 ⌝ }
     ensures { λ r. ⌜ (r ≡ twoAt (now (area .entry)) at) × (r < 65536) ⌝ }
 {
     256 * scan::wide(area[at]) + scan::wide(area[at + 1])
 }
 
-pub fn four(area: &[u8; 80], at: usize) -> u64
+pub(crate) fn four(area: &[u8; 80], at: usize) -> u64
     requires { ⌜ at + 3 < 80 ⌝ }
     ensures { λ r. ⌜ (r ≡ fourAt (now (area .entry)) at) × (r < 4294967296) ⌝ }
 {
     65536 * two(area, at) + two(area, at + 2)
 }
 
-fn both(a: bool, b: bool) -> bool
+pub(crate) fn both(a: bool, b: bool) -> bool
     ensures { λ r. ⌜ r ≡ (a && b) ⌝ }
 {
     if a { b } else { false }
@@ -49,9 +48,6 @@ fn is_closed(lower: u64, upper: u64) -> bool
     requires { ⌜ (lower < 4294967296) × (upper < 4294967296) ⌝ }
     ensures { λ r. ⌜ r ≡ closed lower upper ⌝ }
 {
-    if upper < lower {
-        return false;
-    }
     10000 * upper <= 20000 + lower + 10000 * lower
 }
 
@@ -65,7 +61,7 @@ fn is_wave(lower: u64, upper: u64, value: u64) -> bool
 }
 
 // A word in two's complement, and 200,000 more, so that a probit's thousandths are never below zero.
-fn raised_word(w: u64) -> u64
+pub(crate) fn raised_word(w: u64) -> u64
     requires { ⌜ w < 4294967296 ⌝ }
     ensures { λ r. ⌜ (r ≡ raisedWord w) × (r < 4295167296) ⌝ }
 {
@@ -78,19 +74,15 @@ fn raised_word(w: u64) -> u64
     w + 200000 - 4294967296
 }
 
-// A probit's twelve places, and 200 more.
-fn raised_value(lead: u8, value: u64) -> u64
-    requires { ⌜ value ≤ largest ⌝ }
-    ensures { λ r. ⌜ r ≡ raisedValue lead value ⌝ }
+// A number of the data behind its sign, and `base` more.
+pub(crate) fn raised(base: u64, lead: u8, value: u64) -> u64
+    requires { ⌜ (base ≤ 200000000000000) × (value ≤ largest) ⌝ }
+    ensures { λ r. ⌜ r ≡ Figures·raised base lead value ⌝ }
 {
     if lead != b'-' {
-        return 200000000000000 + value;
+        return base + value;
     }
-    if value < 200000000000000 {
-        200000000000000 - value
-    } else {
-        0
-    }
+    if value < base { base - value } else { 0 }
 }
 
 // A probit with nine places of its raised thousandths.
@@ -132,19 +124,17 @@ fn tenths_at(table: &[u64; 216], n: usize) -> u64
     if n == 0 { 0 } else { table[2 * n - 2] }
 }
 
-// Whether two damages are the table's readings at a probit's raised ends, the same or neighbours.
+// Whether two damages are the table's readings at a probit's raised ends.
 fn is_damage(first: u64, second: u64, lower: u64, upper: u64, table: &[u64; 216]) -> bool
     ensures { λ r. ⌜ r ≡ damageRight first second lower upper (now (table .entry)) ⌝ }
 {
-    let less = rank_at(table, lower);
-    let more = rank_at(table, upper);
-    let low = first == tenths_at(table, less);
-    let high = second == tenths_at(table, more);
-    both(both(both(low, high), less <= more), more <= less + 1)
+    let low = first == tenths_at(table, rank_at(table, lower));
+    let high = second == tenths_at(table, rank_at(table, upper));
+    both(low, high)
 }
 
 // The i-th figure of an answer from 0 on, in the order of the data: pressure, impulse, five probits.
-pub fn is_right(area: &[u8; 80], i: usize, lead: u8, value: u64, table: &[u64; 216]) -> bool
+pub(crate) fn is_right(area: &[u8; 80], i: usize, lead: u8, value: u64, table: &[u64; 216]) -> bool
     requires { ⌜ (i < 7) × (value ≤ largest) ⌝ }
     ensures { λ r. ⌜ r ≡ right (now (area .entry)) i lead value (now (table .entry)) ⌝ }
 {
@@ -157,6 +147,6 @@ pub fn is_right(area: &[u8; 80], i: usize, lead: u8, value: u64, table: &[u64; 2
     let second = two(area, 51 + 4 * i);
     let less = raised_word(lower);
     let more = raised_word(upper);
-    let holds = is_probit(less, more, raised_value(lead, value));
+    let holds = is_probit(less, more, raised(200000000000000, lead, value));
     both(holds, is_damage(first, second, less, more, table))
 }

@@ -1,13 +1,12 @@
 -- What a test picks. Assumes nothing.
 use mathlib.Core.Path.{_≡_, refl}
-use mathlib.Core.Bool.{Bool, true, false}
+use mathlib.Core.Bool.{Bool, true, false, cond}
 use Rattle.exact.specs.laws.Containment.{false-true}
-use Rattle.guidance.specs.Choice.{pick}
 
-pub picked : {A : Type 0} (b : Bool) (x y : A) → b ≡ true → pick b x y ≡ x
+pub picked : {A : Type 0} (b : Bool) (x y : A) → b ≡ true → cond b x y ≡ x
 picked true x y h = refl
 picked false x y h = absurd (false-true h)
 
-pub passed : {A : Type 0} (b : Bool) (x y : A) → b ≡ false → pick b x y ≡ y
+pub passed : {A : Type 0} (b : Bool) (x y : A) → b ≡ false → cond b x y ≡ y
 passed true x y h = let t : _≡_ {A = Bool} false true = cc in absurd (false-true t)
 passed false x y h = refl

@@ -5,7 +5,7 @@ use native.Mathlib.Omega.{arith}
 use Rattle.span.specs.declared.Span.{Span}
 use Rattle.span.specs.Spans.{Normal, Width, Factors, Product, Divisible}
 use Rattle.span.specs.Enclosing.{wider, divisor}
-use Rattle.waves.specs.Ends.{exponent-most-of, exponent-least-of}
+use Rattle.waves.specs.EndBounds.{exponent-most-of, exponent-least-of}
 use Rattle.waves.specs.Detonation.{Distance}
 use Rattle.waves.specs.Deflagration.{Deflagrating}
 

@@ -5,8 +5,8 @@ use native.Mathlib.Omega.{arith}
 use lib.IntN.{ℤ, pos, negsuc}
 use lib.Pow.{pow-pos}
 use Rattle.exact.specs.Fraction.{Frac, _⊑_, ofRatio, neg, _⊞_, _⊟_, _⊠_}
-use Rattle.exact.specs.Bracket.{_∈_}
 use Rattle.exact.specs.laws.Frac.{⊑-refl, ⊑-trans}
+use Rattle.exact.specs.Holding.{_∈_}
 use Rattle.fixed.specs.declared.Log.{Log}
 use Rattle.fixed.specs.Logs.{up, dn, fixed, fixedZ, bracket, Ordered, Narrow, Small}
 use Rattle.fixed.specs.Promises.{LogFactors, LogProduct, Scalable}

@@ -130,34 +130,13 @@ pressure-start = negative-constant _ 1206885810 1206885809 (omega arith) (omega 
 pub impulse-start : LogConstant (neg (ofRatio (tenThousandths 34217))) impulseStart
 impulse-start = negative-constant _ 3674022399 3674022398 (omega arith) (omega arith) (omega arith) (omega arith)
 
--- The front speed: 500, 300 and 200 m/s of ranges 2, 3 and 4; 43 and 26 of ranges 5 and 6
-
-abbrev pub front500 : Span
-front500 = record { lo = 2097152000; hi = 2097152000; e = 1002 }
-
-abbrev pub front300 : Span
-front300 = record { lo = 1258291200; hi = 1258291200; e = 1002 }
-
-abbrev pub front200 : Span
-front200 = record { lo = 1677721600; hi = 1677721600; e = 1001 }
+-- The front speed: 43 and 26 of ranges 5 and 6
 
 abbrev pub factor43 : Span
 factor43 = record { lo = 1442840576; hi = 1442840576; e = 999 }
 
 abbrev pub factor26 : Span
 factor26 = record { lo = 1744830464; hi = 1744830464; e = 998 }
-
-pub front-500 : Constant (ofRatio (whole 500)) 1002 front500
-unfolding whole
-front-500 = coefficient _ _ _ _ 22 (omega arith)
-
-pub front-300 : Constant (ofRatio (whole 300)) 1002 front300
-unfolding whole
-front-300 = coefficient _ _ _ _ 22 (omega arith)
-
-pub front-200 : Constant (ofRatio (whole 200)) 1001 front200
-unfolding whole
-front-200 = coefficient _ _ _ _ 23 (omega arith)
 
 pub factor-43 : Constant (ofRatio (whole 43)) 999 factor43
 unfolding whole

@@ -1,5 +1,6 @@
 -- What the deflagration functions ask of their spans, and what they promise of their results (document 01, "Wave formulas").
 -- The interval ends are open but for that.
+use mathlib.Core.Bool.{cond}
 use Prim.Native.Nat.{ℕ, _+_, _*_, _^_, _≤_}
 use mathlib.Core.Path.{_≡_, refl}
 use lib.Dec.{eqb}
@@ -8,10 +9,9 @@ use Rattle.span.specs.declared.Span.{Span}
 use Rattle.span.specs.Spans.{Normal, Width}
 use Rattle.span.specs.Enclosing.{Encloses}
 use Rattle.guidance.specs.declared.Case.{Case}
-use Rattle.guidance.specs.Choice.{pick}
 use Rattle.guidance.specs.Waves.{number, sound, expansion, fallingPressure, fallingImpulse, deflagrationPressureAt, deflagrationImpulseAt}
 use Rattle.waves.specs.Coefficients.{sixSevenths, threeQuarters}
-use Rattle.waves.specs.Ends.{LowerAtMost}
+use Rattle.waves.specs.EndBounds.{LowerAtMost}
 use Rattle.waves.specs.Detonation.{Distance}
 
 -- 0.83/R - 0.14/R², up to 4
@@ -49,7 +49,7 @@ pub record Mach (v w : Span) : Type 0 where
 
 -- g by the state
 unfoldable pub expansionOf : ℕ → Formula
-expansionOf state = pick (eqb state 1) (number threeQuarters) (number sixSevenths)
+expansionOf state = cond (eqb state 1) (number threeQuarters) (number sixSevenths)
 
 pub expansion-of : (c : Case) → expansion c ≡ expansionOf (c .state)
 unfolding expansion expansionOf

@@ -6,7 +6,7 @@ use Rattle.span.specs.declared.Span.{Span}
 use Rattle.span.specs.Spans.{Normal, Width}
 use Rattle.span.specs.Enclosing.{Encloses}
 use Rattle.guidance.specs.Waves.{aerosolPressure, aerosolImpulse}
-use Rattle.waves.specs.Ends.{LowerAtMost, UpperAtLeast}
+use Rattle.waves.specs.EndBounds.{LowerAtMost, UpperAtLeast}
 
 -- a narrow span of a reduced distance from n/d to 24.1
 pub record Distance (n d : ℕ) (r : Span) : Type 0 where

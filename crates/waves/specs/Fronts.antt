@@ -1,5 +1,6 @@
 -- The front speed by the speed range and the mass, and what is promised of it (document 01, "From frame to speed range").
 -- The interval ends are open but for that.
+use mathlib.Core.Bool.{cond}
 use Prim.Native.Nat.{ℕ, _≤_}
 use mathlib.Core.Path.{_≡_, refl}
 use native.Mathlib.Omega.{arith}
@@ -11,10 +12,9 @@ use Rattle.span.specs.Spans.{Normal, Width}
 use Rattle.span.specs.Enclosing.{Encloses}
 use Rattle.enclosure.specs.Promises.{enough}
 use Rattle.guidance.specs.declared.Case.{Case}
-use Rattle.guidance.specs.Choice.{pick}
 use Rattle.guidance.specs.Clouds.{over, rangeOf}
 use Rattle.guidance.specs.Waves.{number, raised, sixth, frontSpeed}
-use Rattle.waves.specs.Ends.{LowerAtMost}
+use Rattle.waves.specs.EndBounds.{LowerAtMost}
 use Rattle.waves.specs.Deflagration.{Speed}
 
 -- M, the mass in kg
@@ -23,11 +23,11 @@ kilograms mass = over mass 1000 (omega arith)
 
 -- V of ranges 5 and 6
 unfoldable pub slowFront : (range mass : ℕ) → Formula
-slowFront range mass = mul (number (whole (pick (eqb range 5) 43 26))) (raised sixth (number (kilograms mass)))
+slowFront range mass = mul (number (whole (cond (eqb range 5) 43 26))) (raised sixth (number (kilograms mass)))
 
 unfoldable pub frontSpeedOf : (range mass : ℕ) → Formula
 frontSpeedOf range mass =
-    pick (eqb range 2) (number (whole 500)) (pick (eqb range 3) (number (whole 300)) (pick (eqb range 4) (number (whole 200)) (slowFront range mass)))
+    cond (eqb range 2) (number (whole 500)) (cond (eqb range 3) (number (whole 300)) (cond (eqb range 4) (number (whole 200)) (slowFront range mass)))
 
 pub front-speed-of : (c : Case) → frontSpeed c ≡ frontSpeedOf (rangeOf c) (c .mass)
 unfolding frontSpeed frontSpeedOf slowFront
@@ -49,7 +49,7 @@ pub record SixthRoot (mass : ℕ) (s : Span) : Type 0 where
 -- 43 or 26
 pub record Factor (range : ℕ) (s : Span) : Type 0 where
   pub normal : Normal s
-  pub encloses : (n : ℕ) → Encloses s (number (whole (pick (eqb range 5) 43 26))) n
+  pub encloses : (n : ℕ) → Encloses s (number (whole (cond (eqb range 5) 43 26))) n
   pub width : Width s 1
   pub least : 998 ≤ s .e
   pub most : LowerAtMost s 43 1

@@ -9,7 +9,7 @@ use Rattle.fixed.specs.declared.Log.{Log}
 use Rattle.fixed.specs.Logs.{dn, Ordered, Narrow, Small, LogEncloses}
 use Rattle.enclosure.specs.Promises.{enough}
 use Rattle.guidance.specs.Waves.{gasPressure, gasImpulse}
-use Rattle.waves.specs.Ends.{UpperAtLeast}
+use Rattle.waves.specs.EndBounds.{UpperAtLeast}
 
 -- ln R within -5 and 5, and narrow
 pub record Logged (l : Log) : Type 0 where

@@ -1,4 +1,4 @@
-pub mod Ends
+pub mod EndBounds
 pub mod Coefficients
 pub mod Detonation
 pub mod Gas

@@ -1,17 +1,23 @@
--- A line and the frame that it spells get the same answer; and the two damages of a probit are equal or neighbours. Assumes nothing.
+-- A line and the frame that it spells get the same answer; and the two damages of each probit of an answer are equal or neighbours. Assumes nothing.
 use mathlib.Core.Path.{_≡_, _∙_}
 use mathlib.Core.Bool.{true}
 use mathlib.Core.List.{List}
-use Prim.Native.Nat.{ℕ}
+use Prim.Native.Nat.{ℕ, _+_, _≤_}
+use native.Mathlib.Omega.{arith}
+use lib.IntN.{ℤ, pos, negsuc}
 use lib.ListN.{length}
-use Rattle.guidance.specs.Damage.{damage, Neighbours}
-use Rattle.guidance.specs.laws.Readings.{neighbours}
+use Rattle.signed.specs.TwoParts.{up, dn}
+use Rattle.exact.specs.Fraction.{_⊑_, _⊞_, neg, _⊟_}
+use Rattle.exact.specs.Formula.{Formula}
+use Rattle.guidance.specs.declared.Case.{Case}
+use Rattle.guidance.specs.Damage.{damage}
+use Rattle.guidance.specs.laws.Readings.{Neighbours, neighbours}
 use Rattle.frame.specs.declared.Verdict.{Verdict}
 use Rattle.frame.specs.Digits.{allDigits, bytesOf}
 use Rattle.frame.specs.laws.Verdicts.{line-frame}
-use Rattle.exact.specs.Formula.{Formula}
 use Rattle.layout.specs.declared.Probit.{Probit}
-use Rattle.answer.specs.Answer.{ProbitEnds, FromFrame, FromLine}
+use Rattle.layout.specs.declared.Damages.{Damages}
+use Rattle.answer.specs.Answer.{wholeZ, ProbitEnds, reading, readings, Answer, FromFrame, FromLine}
 
 -- what is promised of a line of 44 digits is what is promised of its bytes
 pub line-as-frame : (line before : List ℕ) (v : Verdict) (after : List ℕ) → length line ≡ 44 → allDigits line ≡ true
@@ -19,6 +25,40 @@ pub line-as-frame : (line before : List ℕ) (v : Verdict) (after : List ℕ) �
 line-as-frame line before v after h d f =
     record { verdict = f .verdict ∙ line-frame line (length before) h d; area = f .area }
 
--- document 01: two damage ends are equal or neighbours in the table
-pub damages-near : {x : Formula} {p : Probit} → ProbitEnds x p → Neighbours (damage (p .lower)) (damage (p .upper))
-damages-near {p = p} e = neighbours (p .lower) (p .upper) (e .closed .ordered) (e .closed .narrow)
+-- the ends of a probit, in the form of `neighbours`
+
+in-order : (l u : ℤ) → wholeZ l ⊑ wholeZ u → up l + dn u ≤ up u + dn l
+unfolding wholeZ
+in-order (pos a) (pos b) h = omega (arith, h .cross)
+in-order (pos a) (negsuc b) h = omega (arith, h .cross)
+in-order (negsuc a) (pos b) h = omega (arith, h .cross)
+in-order (negsuc a) (negsuc b) h = omega (arith, h .cross)
+
+near : (l u : ℤ) → wholeZ u ⊟ wholeZ l ⊑ wholeZ (pos 2) → up u + dn l ≤ up l + dn u + 2
+unfolding wholeZ _⊟_ _⊞_ neg
+near (pos a) (pos b) h = omega (arith, h .cross)
+near (pos a) (negsuc b) h = omega (arith, h .cross)
+near (negsuc a) (pos b) h = omega (arith, h .cross)
+near (negsuc a) (negsuc b) h = omega (arith, h .cross)
+
+beside : {x : Formula} {p : Probit} → ProbitEnds x p → Neighbours (damage (p .lower)) (damage (p .upper))
+beside {p = p} e = neighbours (p .lower) (p .upper) (in-order _ _ (e .value .ordered)) (near _ _ (e .closed))
+
+-- document 01: the two damage ends of each probit of an answer are equal or neighbours in the table
+pub record DamagesNear (d : Damages) : Type 0 where
+  pub first : Neighbours (d .first .lower) (d .first .upper)
+  pub second : Neighbours (d .second .lower) (d .second .upper)
+  pub third : Neighbours (d .third .lower) (d .third .upper)
+  pub fourth : Neighbours (d .fourth .lower) (d .fourth .upper)
+  pub fifth : Neighbours (d .fifth .lower) (d .fifth .upper)
+
+pub damages-near : {c : Case} {bytes : List ℕ} (a : Answer c bytes) → DamagesNear (readings (a .probits))
+unfolding readings reading
+damages-near a =
+    record {
+      first = beside (a .first);
+      second = beside (a .second);
+      third = beside (a .third);
+      fourth = beside (a .fourth);
+      fifth = beside (a .fifth);
+    }

@@ -1,23 +1,66 @@
--- The table of starred cases holds. Assumes nothing.
+-- The table of starred cases holds, by computation. Assumes nothing.
 use Prim.Native.Nat.{ℕ, _*_, _≤_}
+use mathlib.Core.Path.{refl}
+use mathlib.Core.List.{List}
+use native.Mathlib.Decide.{decLe}
 use native.Mathlib.Omega.{arith}
-use Rattle.exact.specs.Fraction.{whole, ofRatio}
-use Rattle.exact.specs.Exact.{Holds}
-use Rattle.span.specs.Spans.{wholeF}
-use Rattle.span.specs.Wholes.{wholes}
-use Rattle.guidance.specs.KnownCases.{q}
-use Rattle.guidance.specs.laws.Known.{known as decided}
-use Rattle.guidance.specs.Waves.{standardAir, overpressure}
-use Rattle.frame.specs.laws.Known.{known as judged}
-use Rattle.answer.specs.KnownCases.{Starred}
+use lib.IntN.{pos}
+use Rattle.exact.specs.Fraction.{Ratio, whole, _⊗_, power, _⊑_, ofRatio, _⊠_}
+use Rattle.exact.specs.Formula.{Formula}
+use Rattle.exact.specs.laws.Frac.{⊑-trans}
+use Rattle.guidance.specs.Substances.{betas, betaOf, classOf, heatOf}
+use Rattle.guidance.specs.Clouds.{atLeast1, rangeOf, groundFactor, leanBy, leanFactor, aerosolFactor, energy}
+use Rattle.guidance.specs.Distances.{less, metres, cubed, nearer, farther, cube02, cube24}
+use Rattle.guidance.specs.Waves.{standardAir, reducedPressure}
+use Rattle.guidance.specs.laws.Known.{FirstIs, point-holds, gas-near-field, heterogeneous-reduced, heterogeneous-pressure, range-of}
+use Rattle.frame.specs.Bytes.{fieldsOf}
+use Rattle.frame.specs.Verdicts.{settingOutside, quantityOutside, heatMissing, tests, firstOf, frameVerdict}
+use Rattle.frame.specs.laws.Verdicts.{heat-given}
+use Rattle.answer.specs.Answer.{wholeZ, times, ExactBetween, Answer}
+use Rattle.answer.specs.laws.Between.{times-mono, between}
+use Rattle.answer.specs.KnownCases.{q, KnownCases}
 
-gas : (l u : ℕ) → Holds (wholes l u) (overpressure standardAir (q 0 19)) → (l ≤ 1823400) × (1823400 ≤ u)
-unfolding wholeF ofRatio whole
-gas l u h = let i = decided .q-19-cm-pressure .inside (wholes l u) h in (omega (arith, i .above .cross), omega (arith, i .below .cross))
+-- whole numbers around a value that is the fraction v
+around : {x : Formula} {v : Ratio} {l u : ℕ} → FirstIs x v → ExactBetween 1 x (pos l) (pos u) → (l * v .den ≤ v .num) × (v .num ≤ u * v .den)
+unfolding times wholeZ ofRatio _⊠_
+around f b =
+    let m = b .meets 1 (omega arith) (f .bracket) (f .is) in
+    let low = ⊑-trans (m .first) (times-mono 1 (f .within .below)) in
+    let high = ⊑-trans (times-mono 1 (f .within .above)) (m .second) in
+    (omega (arith, low .cross), omega (arith, high .cross))
 
-heterogeneous : (l u : ℕ) → Holds (wholes l u) (overpressure standardAir (q 1 100)) → (10 * l ≤ 288705) × (288705 ≤ 10 * u)
-unfolding wholeF ofRatio
-heterogeneous l u h = let i = decided .q-heterogeneous-pressure .inside (wholes l u) h in (omega (arith, i .above .cross), omega (arith, i .below .cross))
+gas : (bytes : List ℕ) (a : Answer (fieldsOf (q 0 19)) bytes) → (a .pascals .lower ≤ 1823400) × (1823400 ≤ a .pascals .upper)
+unfolding fieldsOf whole
+gas bytes a = let r = around gas-near-field (a .pressure-ends .value) in (omega (arith, r .0), omega (arith, r .1))
 
-pub starred : Starred
-starred = record { decided = decided; judged = judged; q-19-cm = gas; q-heterogeneous = heterogeneous }
+heterogeneous : (bytes : List ℕ) (a : Answer (fieldsOf (q 1 100)) bytes) → (10 * a .pascals .lower ≤ 288705) × (288705 ≤ 10 * a .pascals .upper)
+unfolding fieldsOf
+heterogeneous bytes a = let r = around heterogeneous-pressure (a .pressure-ends .value) in (omega (arith, r .0), omega (arith, r .1))
+
+reduced : ExactBetween 1000 (reducedPressure standardAir (fieldsOf (q 1 100))) (pos 285) (pos 285)
+unfolding fieldsOf wholeZ ofRatio _⊠_
+reduced = between 1000 (point-holds heterogeneous-reduced) (record { cross = omega arith }) (record { cross = omega arith })
+
+pub known : KnownCases
+unfolding fieldsOf nearer farther less cubed metres cube02 cube24 power whole _⊗_ energy groundFactor leanFactor leanBy decLe aerosolFactor heatOf betas betaOf rangeOf classOf atLeast1 frameVerdict firstOf tests settingOutside quantityOutside heatMissing
+known =
+    record {
+      q-range = refl;
+      q-energy = record { cross = refl };
+      q-20-cm = refl;
+      q-19-cm = refl;
+      q-19-cm-pressure = gas;
+      q-2400-cm = refl;
+      q-2401-cm = refl;
+      q-heterogeneous = reduced;
+      q-heterogeneous-pressure = heterogeneous;
+      class-1-in-1 = λ c e f. range-of c e f;
+      class-1-in-2 = λ c e f. range-of c e f;
+      class-4-in-4 = λ c e f. range-of c e f;
+      substance-25-heat-0 = refl;
+      substance-47-heat-0 = refl;
+      heat-1 = λ frame room e. heat-given frame room (omega arith);
+      substance-76-surroundings-5 = refl;
+      propane-energy = record { cross = refl };
+      propane-range = refl;
+    }

@@ -1,60 +1,33 @@
 -- `blast::detonation_pressure` meets its contract. Assumes nothing.
-use mathlib.Core.Path.{sym, _∙_}
-use Rattle.blast.proofs.Choices.{eighteen}
-use Rattle.blast.proofs.Detonations.{placed, far, near-pressure, aerosol-pressure, gas-pressure, aerosol-pressure-image, wider-distance, near-log, gas-pressure-image}
+use native.Mathlib.Omega.{arith}
+use borrow.Author.Needs.{needs}
+use Rattle.exact.specs.Fraction.{whole}
+use Rattle.span.specs.Constants.{coefficient}
+use Rattle.blast.proofs.Detonations.{told-near, told-heterogeneous, told-gas, near-pressure, heterogeneous-pressure, gas-pressure}
 use Rattle.blast.proofs.detonation_pressure.Statement.{statement}
 use Rattle.blast.proofs.detonation_pressure.Tie as tie
 
-is-near-field-requires : tie.Need-is-near-field-requires
-is-near-field-requires c κs = placed (c .pre .ready)
-
-returns : tie.Need-returns
-returns c = near-pressure (c .before .before .pre) eighteen
-    (sym (c .before .is-near-field .ensures) ∙ c .if1 .taken)
-
 aerosol-pressure-requires : tie.Need-aerosol-pressure-requires
-aerosol-pressure-requires c κs =
-    let e = c .before .before in
-    let s = e .before .before .pre in
-    far s (sym (e .before .is-near-field .ensures) ∙ e .if1 .left) .distance
-
-log-distance-requires : tie.Need-log-distance-requires
-log-distance-requires c κs =
-    let e = c .before .before in
-    let s = e .before .before .pre in
-    wider-distance (far s (sym (e .before .is-near-field .ensures) ∙ e .if1 .left))
+aerosol-pressure-requires c κs = told-heterogeneous (c .before .before .before .pre) (c .before .d .given .1) .distance
 
 gas-pressure-requires : tie.Need-gas-pressure-requires
-gas-pressure-requires c κs =
-    let e = c .before .before .before in
-    let s = e .before .before .pre in
-    near-log (far s (sym (e .before .is-near-field .ensures) ∙ e .if1 .left)) (c .log-distance .ensures)
+gas-pressure-requires c κs = told-gas (c .before .before .before .pre) (c .before .d2 .given .1) .distance
+
+returns : tie.Need-returns
+unfolding whole
+returns c = near-pressure (told-near (c .before .before .pre) (c .enum-told .given .1)) (coefficient (whole 18) _ _ 998 26 (omega arith))
 
 returns-2 : tie.Need-returns-2
 returns-2 c =
-    let t = c .before in
-    let e = t .before .before in
-    let s = e .before .before .pre in
-    let away = sym (e .before .is-near-field .ensures) ∙ e .if1 .left in
-    aerosol-pressure s away (t .if2 .taken) (aerosol-pressure-image (far s away) (c .aerosol-pressure .ensures))
+    let d = c .before .before in
+    heterogeneous-pressure (told-heterogeneous (d .before .before .pre) (d .d .given .1)) (c .aerosol-pressure .ensures)
 
 returns-3 : tie.Need-returns-3
 returns-3 c =
-    let l = c .before in
-    let t = l .before in
-    let e = t .before .before in
-    let s = e .before .before .pre in
-    let away = sym (e .before .is-near-field .ensures) ∙ e .if1 .left in
-    gas-pressure s away (t .if2 .left) (gas-pressure-image (far s away) (l .log-distance .ensures) (c .gas-pressure .ensures))
+    let d = c .before .before in
+    gas-pressure (told-gas (d .before .before .pre) (d .d2 .given .1)) (c .gas-pressure .ensures)
 
 pub detonation-pressure-spec : {M : Type 1} → statement M
 detonation-pressure-spec =
     tie.close
-    (tie.spec
-    is-near-field-requires
-    returns
-    aerosol-pressure-requires
-    log-distance-requires
-    gas-pressure-requires
-    returns-2
-    returns-3)
+    (tie.spec (λ c. search needs) (λ c. search needs) aerosol-pressure-requires (λ c. search needs) gas-pressure-requires returns returns-2 returns-3)

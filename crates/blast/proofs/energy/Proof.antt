@@ -2,7 +2,7 @@
 use native.Mathlib.Omega.{arith}
 use borrow.Author.Needs.{needs}
 use mathlib.Core.Bool.{true}
-use Rattle.guidance.specs.Words.{reduction}
+use Rattle.guidance.specs.CloudWords.{reduction}
 use Rattle.span.specs.Constants.{coefficient}
 use Rattle.blast.proofs.Joules.{quarters-factors, energy-plain, energy-reduced}
 use Rattle.blast.proofs.energy.Statement.{statement}

@@ -1,40 +1,33 @@
 -- `blast::reduced_impulse` meets its contract. Assumes nothing.
+use native.Mathlib.Omega.{arith}
 use borrow.Author.Needs.{needs}
-use Rattle.blast.proofs.Deflagrations.{detonates, burns, detonation-impulse-only, smaller-impulse}
+use Rattle.guidance.specs.Waves.{reducedImpulse}
+use Rattle.blast.specs.Windows.{deflagrationImpulseWindow}
+use Rattle.blast.proofs.Deflagrations.{told-burning, deflagrating, deflagration-impulse, detonation-alone, smaller-of-both}
 use Rattle.blast.proofs.reduced_impulse.Statement.{statement}
 use Rattle.blast.proofs.reduced_impulse.Tie as tie
 
-reduced-distance-requires : tie.Need-reduced-distance-requires
-reduced-distance-requires c κs = search needs
-
-detonation-impulse-requires : tie.Need-detonation-impulse-requires
-detonation-impulse-requires c κs = search needs
+deflagration-impulse-requires : tie.Need-deflagration-impulse-requires
+deflagration-impulse-requires c κs =
+    let f = c .before in
+    deflagrating (told-burning (f .before .before .before .pre .deflagration) (f .deflagration .given .1) .flame)
 
 returns : tie.Need-returns
+unfolding reducedImpulse
 returns c =
     let d = c .before .before in
-    detonation-impulse-only _ _ (detonates (d .before .before .pre .cloud) (c .if1 .taken)) (d .detonation-impulse .ensures)
-
-deflagration-impulse-requires : tie.Need-deflagration-impulse-requires
-deflagration-impulse-requires c κs = search needs
-
-lesser-requires : tie.Need-lesser-requires
-lesser-requires c κs = search needs
+    detonation-alone _ _ _ deflagrationImpulseWindow _ (omega arith) (omega arith) (d .detonation-impulse .ensures) (rw (c .enum-told .given .1) at (d .before .pre .deflagration))
 
 returns-2 : tie.Need-returns-2
+unfolding reducedImpulse
 returns-2 c =
-    let f = c .before in
-    let e = f .before in
-    let d = e .before .before in
-    smaller-impulse _ _ (burns (d .before .before .pre .cloud) (e .if1 .left)) (f .deflagration-impulse .ensures) (d .detonation-impulse .ensures) (c .lesser .ensures)
+    let p = c .before in
+    let f = p .before .before in
+    let d = f .before .before in
+    let b = told-burning (d .before .pre .deflagration) (f .deflagration .given .1) in
+    smaller-of-both _ _ _ _ _ (omega arith) (omega arith) (d .detonation-impulse .ensures) (b .burns) (deflagration-impulse (b .flame) (p .deflagration-impulse .ensures)) (c .lesser .ensures)
 
 pub reduced-impulse-spec : {M : Type 1} → statement M
 reduced-impulse-spec =
     tie.close
-    (tie.spec
-    reduced-distance-requires
-    detonation-impulse-requires
-    returns
-    deflagration-impulse-requires
-    lesser-requires
-    returns-2)
+    (tie.spec (λ c κs. search needs) (λ c. search needs) (λ c. search needs) deflagration-impulse-requires (λ c κs. search needs) returns returns-2)

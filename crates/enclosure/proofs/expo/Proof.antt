@@ -7,8 +7,8 @@ use Rattle.fixed.specs.declared.Log.{Log}
 use Rattle.fixed.specs.Logs.{apart}
 use Rattle.enclosure.specs.Promises.{Exponent}
 use Rattle.signed.specs.Reading.{R, back, step}
-use Rattle.fixed.proofs.Words.{size}
-use Rattle.enclosure.proofs.Signed.{difference}
+use Rattle.signed.specs.Magnitude.{size}
+use Rattle.enclosure.proofs.Differences.{difference}
 use Rattle.enclosure.proofs.ExpInterval.{upper-least, interval}
 use Rattle.enclosure.proofs.expo.Statement.{statement}
 use Rattle.enclosure.proofs.expo.Tie as tie

@@ -8,7 +8,7 @@ use Rattle.enclosure.proofs.ln.Statement.{statement}
 use Rattle.enclosure.proofs.ln.Tie as tie
 
 -- the words that are handed over
-fits : (c : tie.After-slack) → (c .slack .result + 1 ≤ c .before .point .result) × (c .before .point .result + 15 < 2 ^ 41)
+fits : (c : tie.After-slack) → (c .slack .result + 1 ≤ c .before .point .result) × (c .before .point .result + 8 < 2 ^ 41)
 fits c = word-fits _ _ _ (c .before .before .pre) (c .before .point .ensures) (c .slack .ensures)
 
 point-requires : tie.Need-point-requires

@@ -4,11 +4,11 @@
 use Prim.Native.Nat.{ℕ, zero, suc, _+_, _≤_}
 use mathlib.Core.Path.{_≡_}
 use native.Mathlib.Omega.{arith}
-use Rattle.exact.specs.Fraction.{Ratio, _≼_, whole, _⊕_, _⊗_, power, sum}
+use Rattle.exact.specs.Fraction.{Ratio, _≼_, _≈_, whole, _⊕_, _⊗_, power, sum}
 use Rattle.exact.specs.Series.{factorial, expTerm, expLower}
 use Rattle.exact.specs.laws.Equal.{≈-refl, ≈-sym, ≈-trans, ⊕-cong, ⊗-cong, ≈-cancel}
 use Rattle.exact.specs.laws.Exp.{exp-lower-grows}
-use Rattle.exact.specs.laws.Ratio.{exchange, nothing-times, above-whole, _≈_, ≼-refl, ≼-trans, to≼, from≼, zero-≼, ⊕-mono, ⊗-mono, ⊕-comm, ⊕-assoc, ⊕-upper, ⊗-assoc, distrib}
+use Rattle.exact.specs.laws.Ratio.{exchange, nothing-times, above-whole, ≼-refl, ≼-trans, to≼, from≼, zero-≼, ⊕-mono, ⊗-mono, ⊕-comm, ⊕-assoc, ⊕-upper, ⊗-assoc, distrib}
 
 -- Terms
 

@@ -9,9 +9,8 @@ use mathlib.Core.Option.{Option, none, some}
 use Rattle.exact.specs.Fraction.{Ratio, _≼_, Above0, whole, _⊖_, sum, Frac, _⊑_, Positive, zeroF, neg, magnitude, oneF}
 use Rattle.exact.specs.Bracket.{Bracket, overPairs}
 use Rattle.exact.specs.Series.{expLower, expUpper}
-use Rattle.exact.specs.Ends.{lnLowerAt, lnUpperAt, expUpperOf, oneOverOf, expLowerAt, expUpperAt}
+use Rattle.exact.specs.LnExp.{lnLowerAt, lnUpperAt, expUpperOf, oneOverOf, expLowerAt, expUpperAt}
 use Rattle.exact.specs.Formula.{Formula, bracketAt, lift, _>>_, lnB, expB}
-use Rattle.exact.specs.Exact.{Holds}
 use Rattle.exact.specs.laws.Decide.{decF, decPositives, decAbove0, decided, decided₂}
 use Rattle.exact.specs.laws.Divisors.{magnitude-above, one-magnitude, one-recip}
 use Rattle.exact.specs.laws.EndsMeet.{signed, magnitude-mono, neg-below, ofRatio-mono, one-below-exp, recip-below-one, first-term}
@@ -21,6 +20,7 @@ use Rattle.exact.specs.laws.Ln.{ln-lower-mono, ln-upper-mono}
 use Rattle.exact.specs.laws.Meeting.{ends, Meets, brackets-meet}
 use Rattle.exact.specs.laws.Pairs.{_⊆_, Monotone, pairs-isotone}
 use Rattle.exact.specs.laws.Ratio.{above-one, ≼-trans, ⊕-upper, recip-anti, above-mono, ⊖-anti}
+use Rattle.exact.specs.Holding.{Holds}
 
 pub false-true : _≡_ {A = Bool} false true → ⊥
 false-true e = let z : _≡_ {A = ℕ} 0 1 = cc in omega arith

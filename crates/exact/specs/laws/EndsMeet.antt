@@ -8,7 +8,7 @@ use native.Mathlib.Decide.{decLe}
 use native.Mathlib.Omega.{arith}
 use Rattle.exact.specs.Fraction.{_⊞_, Ratio, _≼_, Above0, whole, _⊕_, _⊖_, recip, power, sum, _⊗_, Frac, _⊑_, Positive, zeroF, neg, ofRatio, magnitude, oneF}
 use Rattle.exact.specs.Series.{factorial, expLower, expUpper, expTerm}
-use Rattle.exact.specs.Ends.{expLowerAt, expUpperAt, expUpperOf, lnLowerAt, lnUpperAt, oneOverOf}
+use Rattle.exact.specs.LnExp.{expLowerAt, expUpperAt, expUpperOf, lnLowerAt, lnUpperAt, oneOverOf}
 use Rattle.exact.specs.laws.Decide.{decF, decAbove0, decided, decided₂}
 use Rattle.exact.specs.laws.Divisors.{magnitude-above, one-magnitude, one-recip}
 use Rattle.exact.specs.laws.Exp.{exp-lower-upper, exp-lower-mono}

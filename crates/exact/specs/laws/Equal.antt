@@ -2,8 +2,8 @@
 use Prim.Native.Nat.{_*_}
 use native.Mathlib.Nat.{mul-pos, le-of-mul-le-mul-right}
 use native.Mathlib.Omega.{arith}
-use Rattle.exact.specs.Fraction.{Ratio, _≼_, Above0, _⊕_, _⊗_}
-use Rattle.exact.specs.laws.Ratio.{_≈_, ≼-trans, to≼, from≼, ⊕-mono, ⊗-mono, ⊗-comm}
+use Rattle.exact.specs.Fraction.{Ratio, _≼_, _≈_, Above0, _⊕_, _⊗_}
+use Rattle.exact.specs.laws.Ratio.{≼-trans, to≼, from≼, ⊕-mono, ⊗-mono, ⊗-comm}
 
 pub both≼ : {x y : Ratio} → x ≼ y → y ≼ x → x ≈ y
 both≼ h k = omega arith

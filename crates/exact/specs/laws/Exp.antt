@@ -4,9 +4,9 @@ use Prim.Native.Nat.{ℕ, zero, suc, _+_, _*_, _-_, _≤_}
 use mathlib.Core.Path.{_≡_, _∙_, ap, subst}
 use native.Mathlib.Nat.{mul-le-mul-right, le-dest}
 use native.Mathlib.Omega.{arith}
-use Rattle.exact.specs.Fraction.{Ratio, _≼_, Above0, whole, _⊕_, _⊗_, _⊖_, recip, power}
+use Rattle.exact.specs.Fraction.{Ratio, _≼_, _≈_, Above0, whole, _⊕_, _⊗_, _⊖_, recip, power}
 use Rattle.exact.specs.Series.{expLower, expTail, expTerm, expUpper, factorial}
-use Rattle.exact.specs.laws.Ratio.{_≈_, ≼-refl, ≼-trans, to≼, ⊕-mono, ⊗-mono, recip-anti, ⊖-anti, power-mono, sum-mono}
+use Rattle.exact.specs.laws.Ratio.{≼-refl, ≼-trans, to≼, ⊕-mono, ⊗-mono, recip-anti, ⊖-anti, power-mono, sum-mono}
 use Rattle.exact.specs.laws.Sums.{sum-rises, upper-falls, after-is, after, lower-upper}
 
 -- Larger N

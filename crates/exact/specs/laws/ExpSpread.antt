@@ -4,14 +4,14 @@ use Prim.Native.Nat.{ℕ, suc, _+_, _*_, _-_, _≤_}
 use mathlib.Core.Path.{_≡_, ap, subst₂}
 use mathlib.Core.Option.{Option, none, some}
 use native.Mathlib.Omega.{arith}
-use Rattle.exact.specs.Fraction.{Ratio, _≼_, Above0, whole, _⊕_, _⊗_, _⊖_, recip, power, Frac, _⊑_, zeroF, _⊞_, _⊠_, neg, ofRatio, magnitude}
+use Rattle.exact.specs.Fraction.{Ratio, _≼_, _≈_, Above0, whole, _⊕_, _⊗_, _⊖_, recip, power, Frac, _⊑_, zeroF, _⊞_, _⊠_, neg, ofRatio, magnitude}
 use Rattle.exact.specs.Series.{expLower, expUpper}
-use Rattle.exact.specs.Ends.{expUpperOf, oneOverOf, expLowerAt, expUpperAt}
+use Rattle.exact.specs.LnExp.{expUpperOf, oneOverOf, expLowerAt, expUpperAt}
 use Rattle.exact.specs.laws.Addition.{product-below-sum}
 use Rattle.exact.specs.laws.Decide.{decF, decAbove0, decided, decided₂}
 use Rattle.exact.specs.laws.EndsMeet.{signed, above-moves, magnitude-mono}
 use Rattle.exact.specs.laws.Frac.{⊑-trans, ⊑-total, neg-anti}
-use Rattle.exact.specs.laws.Ratio.{shift, unit-left, unit-right, _≈_, ≼-refl, ≼-trans, to≼, zero-≼, ⊗-mono, ⊕-upper}
+use Rattle.exact.specs.laws.Ratio.{shift, one-times, unit-right, ≼-refl, ≼-trans, to≼, zero-≼, ⊗-mono, ⊕-upper}
 use Rattle.exact.specs.laws.Reduction.{most-zero, upper-near}
 use Rattle.exact.specs.laws.Spread.{absorb, exp-moves-all}
 use Rattle.exact.specs.laws.Width.{half}
@@ -53,7 +53,7 @@ module _ (δ : Ratio) (c k n : ℕ) (l : suc (2 * c + k) ≤ n) where
       (≼-trans (to≼ (pairs (expLower y n) (expLower x n) (slack k) (whole 1 ⊖ δ)))
       (≼-trans
       (⊗-mono (≼-trans (⊗-mono (product-below-sum y x n n (n + n) (omega arith)) (≼-refl (whole 1 ⊖ δ))) (near-zero (y ⊕ x) δ m (n + n))) (≼-refl _))
-      (unit-left (slack k ⊗ slack k))))
+      (to≼ (one-times (slack k ⊗ slack k)))))
 
 -- Signed fractions
 
@@ -122,7 +122,7 @@ across-moves s t δ h k l =
     let f : (t .plus - t .minus) + t .minus ≡ t .plus = omega arith in
     omega (arith, l .cross, ap (λ i. i * (t .den * δ .den)) e, ap (λ i. i * (s .den * δ .den)) f)
 
-neg-moves : (s t : Frac) (δ : Ratio) → t ⊑ s ⊞ ofRatio δ → neg s ⊑ neg t ⊞ ofRatio δ
+pub neg-moves : (s t : Frac) (δ : Ratio) → t ⊑ s ⊞ ofRatio δ → neg s ⊑ neg t ⊞ ofRatio δ
 unfolding neg ofRatio _⊞_
 neg-moves s t δ h = omega (arith, h .cross)
 

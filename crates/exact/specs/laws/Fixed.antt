@@ -45,12 +45,6 @@ pub lower-over : {S a : ℕ} {x : Ratio} (n : ℕ) (z : 0 < n) → Lower S a x �
 unfolding oneOver _⊗_
 lower-over {S} {a} {x} n z h = omega (arith, h .bound, mul-le-mul-right (x .den) (div-mul-le-self a n))
 
-pub upper-over : {S a : ℕ} {x : Ratio} (n : ℕ) (z : 0 < n) → Upper S a x → Upper S (suc (a / n)) (x ⊗ oneOver n z)
-unfolding oneOver _⊗_
-upper-over {S} {a} {x} n z h =
-    let q : a ≤ suc (a / n) * n = omega (arith, lt-div-mul-add {a = a} z) in
-    omega (arith, h .bound, mul-le-mul-right (x .den) q)
-
 -- The loop of a program: powers p of u in S-ths by w, which is u² in S-ths, and their quotients by 1, 3, 5, ..
 
 unfoldable pub powersDown : (S p w : ℕ) → ℕ → ℕ

@@ -91,6 +91,11 @@ unfolding zeroF _⊠_
 pub scale-mono : {c x y : Frac} → zeroF ⊑ c → x ⊑ y → c ⊠ x ⊑ c ⊠ y
 scale-mono {c} {x} {y} z l = ⊑-trans (⊠-comm c x) (⊑-trans (⊠-mono c z l) (⊠-comm y c))
 
+-- 0 ≤ a ≤ p and 0 ≤ b ≤ q give a b ≤ p q
+pub product-mono : {a p b q : Frac} → zeroF ⊑ b → zeroF ⊑ p → a ⊑ p → b ⊑ q → a ⊠ b ⊑ p ⊠ q
+product-mono {a} {p} {b} {q} z w h k =
+    ⊑-trans (⊠-mono b z h) (scale-mono w k)
+
 -- multiplying by z ≤ 0
 pub ⊠-anti : {x y : Frac} (z : Frac) → z ⊑ zeroF → x ⊑ y → y ⊠ z ⊑ x ⊠ z
 unfolding zeroF _⊠_
@@ -107,7 +112,7 @@ inverse-anti {x} {y} h k l =
 
 -- The smaller and the larger of two
 
-smaller-case : (P : Frac → Type 0) (x y : Frac) → (x ⊑ y → P x) → (y ⊑ x → P y) → P (smaller x y)
+pub smaller-case : (P : Frac → Type 0) (x y : Frac) → (x ⊑ y → P x) → (y ⊑ x → P y) → P (smaller x y)
 unfolding smaller
 smaller-case P x y f g = decided P (decF x y) f (λ h. g (⊑-total x y h))
 

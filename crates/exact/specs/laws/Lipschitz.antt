@@ -5,13 +5,13 @@ use Prim.Native.Nat.{ℕ, zero, suc, _+_, _*_, _-_, _≤_, _<_}
 use mathlib.Core.Path.{_≡_, ap}
 use native.Mathlib.Nat.{mul-pos, mul-le-mul-right}
 use native.Mathlib.Omega.{arith}
-use Rattle.exact.specs.Fraction.{Ratio, _≼_, Above0, whole, _⊕_, _⊗_, _⊖_, recip, power, sum}
+use Rattle.exact.specs.Fraction.{Ratio, _≼_, _≈_, Above0, whole, _⊕_, _⊗_, _⊖_, recip, power, sum}
 use Rattle.exact.specs.Series.{factorial, expTerm, expLower, argument, oneOver, even, odd, lnTerm, gap, seriesLower}
 use Rattle.exact.specs.laws.Divisors.{gap-argument}
 use Rattle.exact.specs.laws.Ln.{argument-mono}
 use Rattle.exact.specs.laws.LnSeries.{gap-anti}
 use Rattle.exact.specs.laws.Positive.{factorial-pos, odd-pos}
-use Rattle.exact.specs.laws.Ratio.{exchange, _≈_, ≼-refl, ≼-trans, to≼, from≼, ⊕-mono, ⊗-mono, ⊕-upper, distrib, recip-anti, above-mono}
+use Rattle.exact.specs.laws.Ratio.{exchange, ≼-refl, ≼-trans, to≼, from≼, ⊕-mono, ⊗-mono, ⊕-upper, distrib, recip-anti, above-mono}
 use Rattle.exact.specs.laws.Sums.{after, lower-upper}
 
 -- Powers: v^(j+1) ≤ u^(j+1) + (j+1) d v^j, where u ≤ v ≤ u + d

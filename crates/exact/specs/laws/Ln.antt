@@ -8,7 +8,7 @@ use native.Mathlib.Decide.{decLe}
 use native.Mathlib.Omega.{arith}
 use Rattle.exact.specs.Fraction.{Ratio, _≼_, whole, _⊕_, _⊗_, _⊖_, recip}
 use Rattle.exact.specs.Series.{oneOver, seriesLower, seriesUpper, argument, climb, exponent, fraction, third}
-use Rattle.exact.specs.Ends.{ln2Lower, ln2Upper, lnLower, lnUpper}
+use Rattle.exact.specs.LnExp.{ln2Lower, ln2Upper, lnLower, lnUpper}
 use Rattle.exact.specs.laws.Divisors.{gap-third}
 use Rattle.exact.specs.laws.LnSeries.{series-lower-grows, series-upper-falls, series-lower-upper, series-lower-mono, series-upper-mono}
 use Rattle.exact.specs.laws.Positive.{two-pow-pos}

@@ -4,10 +4,10 @@ use Prim.Native.Nat.{ℕ, zero, suc, _+_, _*_, _-_, _≤_, _<_}
 use mathlib.Core.Path.{_≡_, _∙_, refl, ap, subst}
 use native.Mathlib.Nat.{le-dest}
 use native.Mathlib.Omega.{arith}
-use Rattle.exact.specs.Fraction.{sum, Ratio, _≼_, Above0, whole, _⊕_, _⊗_, _⊖_, recip, power}
+use Rattle.exact.specs.Fraction.{sum, Ratio, _≼_, _≈_, Above0, whole, _⊕_, _⊗_, _⊖_, recip, power}
 use Rattle.exact.specs.Series.{even, gap, lnTail, lnTerm, odd, oneOver, seriesLower, seriesUpper}
 use Rattle.exact.specs.laws.Positive.{odd-pos}
-use Rattle.exact.specs.laws.Ratio.{_≈_, ≼-refl, ≼-trans, to≼, from≼, ⊕-mono, ⊗-mono, distrib, recip-anti, ⊖-anti, power-mono, sum-mono}
+use Rattle.exact.specs.laws.Ratio.{≼-refl, ≼-trans, to≼, from≼, ⊕-mono, ⊗-mono, distrib, recip-anti, ⊖-anti, power-mono, sum-mono}
 use Rattle.exact.specs.laws.Sums.{sum-rises, upper-falls, after-is, after, lower-upper}
 
 pub even-is : (j : ℕ) → even j ≡ 2 * j

@@ -6,21 +6,21 @@ use mathlib.Core.Path.{_≡_, ap}
 use native.Mathlib.Nat.{mul-pos, mul-le-mul-right, pow-succ'}
 use native.Mathlib.Decide.{decLe}
 use native.Mathlib.Omega.{arith}
-use Rattle.exact.specs.Fraction.{Ratio, _≼_, Above0, whole, _⊕_, _⊗_, _⊖_, recip, power, sum}
+use Rattle.exact.specs.Fraction.{Ratio, _≼_, _≈_, Above0, whole, _⊕_, _⊗_, _⊖_, recip, power, sum}
 use Rattle.exact.specs.Series.{factorial, expTerm, expLower, expUpper, oneOver, even, odd, lnTerm, lnTail, gap, seriesUpper, exponent, fraction, argument}
-use Rattle.exact.specs.Ends.{ln2Upper, lnUpper}
+use Rattle.exact.specs.LnExp.{ln2Upper, lnUpper}
 use Rattle.exact.specs.laws.Addition.{product-below-sum}
 use Rattle.exact.specs.laws.Divisors.{gap-argument, fraction-above, gap-third}
 use Rattle.exact.specs.laws.Exp.{exp-lower-grows}
 use Rattle.exact.specs.laws.Lipschitz.{split, gather, collect, odd-split}
+use Rattle.exact.specs.laws.Equal.{≈-refl}
 use Rattle.exact.specs.laws.Ln.{argument-two, whole-mono}
 use Rattle.exact.specs.laws.LnSeries.{gap-anti, series-upper-mono}
 use Rattle.exact.specs.laws.LogBelow.{steps-to, one-below}
 use Rattle.exact.specs.laws.Octaves.{fraction-one}
 use Rattle.exact.specs.laws.Positive.{odd-pos, two-pow-pos}
-use Rattle.exact.specs.laws.Ratio.{exchange, _≈_, ≼-refl, ≼-trans, to≼, from≼, ⊕-mono, ⊕-assoc, ⊕-upper, ⊗-mono, distrib, recip-anti, power-mono, above-whole, above-one}
-use Rattle.exact.specs.laws.Reduction.{Most, most-upper, most-mono, Least, least-one, once-more, room, upper-near}
-use Rattle.exact.specs.laws.Width.{half}
+use Rattle.exact.specs.laws.Ratio.{exchange, ≼-refl, ≼-trans, to≼, from≼, ⊕-mono, ⊕-assoc, ⊕-upper, ⊗-mono, distrib, recip-anti, power-mono, above-whole, above-one}
+use Rattle.exact.specs.laws.Reduction.{Most, most-upper, most-mono, Least, least-one, once-more}
 
 -- e^y is at least A: so is every upper bound of its sums
 pub record Reaches (y A : Ratio) : Type 0 where
@@ -259,14 +259,14 @@ ln2-reaches n =
     reaches-mono (series-upper-mono argument-two n g gap-third) (series-reaches (whole 2) (whole-mono 1 2 (omega arith)) n g) (≼-refl _)
 
 -- t = 2^k f
-double : (k : ℕ) (P : Ratio) → whole (2 ^ k) ≼ P → whole (2 ^ suc k) ≼ whole 2 ⊗ P
+double : (k : ℕ) (P : Ratio) → P ≈ whole (2 ^ k) → whole 2 ⊗ P ≈ whole (2 ^ suc k)
 unfolding whole _⊗_
 double k P h = rw pow-succ' (omega (arith, h .cross))
 
-pub two-powers : (k : ℕ) → whole (2 ^ k) ≼ power (whole 2) k
+pub powers-of-two : (k : ℕ) → power (whole 2) k ≈ whole (2 ^ k)
 unfolding power
-two-powers zero = ≼-refl (whole 1)
-two-powers (suc k) = double k (power (whole 2) k) (two-powers k)
+powers-of-two zero = ≈-refl (whole 1)
+powers-of-two (suc k) = double k (power (whole 2) k) (powers-of-two k)
 
 unscaled : (t : Ratio) (K : ℕ) (z : 0 < K) → t ≼ whole K ⊗ (t ⊗ oneOver K z)
 unfolding oneOver whole _⊗_
@@ -274,7 +274,7 @@ unscaled t K z = omega arith
 
 octave : (t : Ratio) → t ≼ power (whole 2) (exponent t) ⊗ fraction t
 unfolding fraction
-octave t = ≼-trans (unscaled t (2 ^ exponent t) (two-pow-pos (exponent t))) (⊗-mono (two-powers (exponent t)) (≼-refl _))
+octave t = ≼-trans (unscaled t (2 ^ exponent t) (two-pow-pos (exponent t))) (⊗-mono (from≼ (powers-of-two (exponent t))) (≼-refl _))
 
 -- t ≤ e^(ln t)
 pub ln-reaches : (t : Ratio) (l : whole 1 ≼ t) (n : ℕ) → Reaches (lnUpper t l n) t
@@ -287,9 +287,3 @@ ln-reaches t l n =
 -- every upper end of e^ at every upper end of ln t is at least t
 pub exp-ln-above : (t : Ratio) (l : whole 1 ≼ t) (m n : ℕ) (h : Above0 (whole (suc n) ⊖ lnUpper t l m)) → t ≼ expUpper (lnUpper t l m) n h
 exp-ln-above t l m n h = reaches-upper (ln-reaches t l m) n h
-
--- and the sums come within 2^-k of it, for y ≤ c and N > 2c + k
-pub reaches-sums : {y A : Ratio} → Reaches y A → (c k n : ℕ) → y ≼ whole c → suc (2 * c + k) ≤ n → A ≼ expLower y n ⊗ (whole 1 ⊕ power half k)
-reaches-sums {y} r c k n b l =
-    let h : Above0 (whole (suc n) ⊖ y) = room y c n b (omega arith) in
-    ≼-trans (reaches-upper r n h) (upper-near y c k n b l h)

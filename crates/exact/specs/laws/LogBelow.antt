@@ -8,7 +8,7 @@ use native.Mathlib.Decide.{decLe}
 use native.Mathlib.Omega.{arith}
 use Rattle.exact.specs.Fraction.{Ratio, _≼_, Above0, whole, _⊕_, _⊗_, _⊖_, recip}
 use Rattle.exact.specs.Series.{expLower, oneOver}
-use Rattle.exact.specs.Ends.{lnLower}
+use Rattle.exact.specs.LnExp.{lnLower}
 use Rattle.exact.specs.laws.Addition.{sum-below-product}
 use Rattle.exact.specs.laws.Exp.{exp-lower-mono}
 use Rattle.exact.specs.laws.ExpSpread.{near-zero}

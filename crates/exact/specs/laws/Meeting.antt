@@ -3,14 +3,15 @@ use Prim.Native.Nat.{ℕ}
 use mathlib.Core.Path.{_≡_, subst₂}
 use mathlib.Core.Option.{Option, none, some}
 use Rattle.exact.specs.Fraction.{Frac, _⊑_}
-use Rattle.exact.specs.Bracket.{larger, Bracket, _∈_, overPairs, Meet}
-use Rattle.exact.specs.Ends.{expLowerAt, expUpperAt}
+use Rattle.exact.specs.Bracket.{larger, Bracket, overPairs, Meet}
+use Rattle.exact.specs.LnExp.{expLowerAt, expUpperAt}
 use Rattle.exact.specs.Formula.{Formula, _>>_, add, bracketAt, const, div, exp, expB, least, lift, ln, lnB, mul, sub, quotientB}
 use Rattle.exact.specs.Exact.{AnyTwoMeet}
 use Rattle.exact.specs.laws.Decide.{decPositives, decided₂}
 use Rattle.exact.specs.laws.EndsMeet.{Below, ln-below, exp-below}
 use Rattle.exact.specs.laws.Frac.{positive-mono, ⊑-refl, ⊑-trans, larger-left, larger-right, larger-lub}
 use Rattle.exact.specs.laws.Pairs.{quotients-hold, Monotone, pairs-hold, ⊞-monotone, ⊟-monotone, ⊠-monotone, smaller-monotone}
+use Rattle.exact.specs.Holding.{_∈_}
 
 -- Meeting, where both brackets are there: the first's lower end is at most the second's upper end
 abbrev pub Meets : Option Bracket → Option Bracket → Type 0

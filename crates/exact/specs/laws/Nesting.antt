@@ -6,7 +6,7 @@ use native.Mathlib.Omega.{arith}
 use Rattle.exact.specs.Fraction.{Ratio, Above0, Frac, _⊑_, Positive, zeroF, oneF, magnitude, neg}
 use Rattle.exact.specs.Bracket.{Bracket}
 use Rattle.exact.specs.Series.{expLower, expUpper}
-use Rattle.exact.specs.Ends.{lnLowerAt, lnUpperAt, expUpperOf, oneOverOf, expLowerAt, expUpperAt}
+use Rattle.exact.specs.LnExp.{lnLowerAt, lnUpperAt, expUpperOf, oneOverOf, expLowerAt, expUpperAt}
 use Rattle.exact.specs.Formula.{Formula, const, add, sub, mul, div, least, ln, exp, bracketAt, _>>_, quotientB, lnB, expB}
 use Rattle.exact.specs.laws.Containment.{Inside, Isotone, AtMost, AtLeast, AtMostOf, AtLeastOf, pairs-inside, then-inside, ln-isotone, exp-isotone, one-below-lower, recip-least, recip-most, ends-inside}
 use Rattle.exact.specs.laws.Decide.{decF, decPositives, decAbove0, decided, decided₂, decided-both}
@@ -17,7 +17,7 @@ use Rattle.exact.specs.laws.Ln.{ln-lower-grows, ln-upper-falls}
 use Rattle.exact.specs.laws.Meeting.{Meets, meeting}
 use Rattle.exact.specs.laws.Pairs.{quotients-hold, ⊞-monotone, ⊟-monotone, ⊠-monotone, smaller-monotone}
 use Rattle.exact.specs.laws.Ratio.{above-one}
-use Rattle.exact.specs.laws.Steps.{binary-quotient}
+use Rattle.exact.specs.laws.Inclusion.{binary-quotient}
 
 -- The ends at signed fractions
 

@@ -7,9 +7,9 @@ use native.Mathlib.Nat.{mul-pos, mul-le-mul-right, mul-le-mul-left, mul-le-mul, 
 use native.Mathlib.Omega.{arith}
 use mathlib.Core.List.{[], _∷_}
 use lib.Pow.{pow-add}
-use Rattle.exact.specs.Fraction.{Ratio, _≼_, Above0, whole, _⊕_, _⊗_, _⊖_, recip, power, sum}
+use Rattle.exact.specs.Fraction.{Ratio, _≼_, _≈_, Above0, whole, _⊕_, _⊗_, _⊖_, recip, power, sum}
 use Rattle.exact.specs.Series.{oneOver, even, lnTerm, seriesLower, exponent, fraction, argument, third}
-use Rattle.exact.specs.Ends.{ln2Lower, lnLower}
+use Rattle.exact.specs.LnExp.{ln2Lower, lnLower}
 use Rattle.exact.specs.laws.Divisors.{fraction-above}
 use Rattle.exact.specs.laws.Frac.{rearrange}
 use Rattle.exact.specs.laws.Linear.{_+ˢ_, read, back, linear}
@@ -17,7 +17,7 @@ use Rattle.exact.specs.laws.Lipschitz.{ln-fraction-moves}
 use Rattle.exact.specs.laws.Ln.{exponent-low, exponent-mono, fraction-mono, fraction-below-two, whole-mono}
 use Rattle.exact.specs.laws.LnSeries.{series-lower-mono}
 use Rattle.exact.specs.laws.Positive.{two-pow-pos}
-use Rattle.exact.specs.laws.Ratio.{above-whole, _≈_, ≼-refl, ≼-trans, to≼, from≼, ⊕-mono, ⊗-mono, ⊕-assoc}
+use Rattle.exact.specs.laws.Ratio.{above-whole, ≼-refl, ≼-trans, to≼, from≼, ⊕-mono, ⊗-mono, ⊕-assoc}
 
 pub difference : (x y : Ratio) → y ≼ x ⊕ (y ⊖ x)
 unfolding _⊕_ _⊖_
@@ -27,9 +27,9 @@ difference x y =
 
 -- ln 1 = 0
 
-none-left : (P O : Ratio) → whole 0 ⊗ P ⊗ O ≼ whole 0
+pub zero-times : (P O : Ratio) → whole 0 ⊗ P ⊗ O ≼ whole 0
 unfolding whole _⊗_
-none-left P O = omega arith
+zero-times P O = omega arith
 
 pub zero-zero : whole 0 ⊕ whole 0 ≼ whole 0
 unfolding whole _⊕_
@@ -39,9 +39,9 @@ pub zero-terms : {z : Ratio} → z ≼ whole 0 → (n : ℕ) → sum (lnTerm z) 
 unfolding sum lnTerm power
 zero-terms h zero = ≼-refl (whole 0)
 zero-terms {z} h (suc n) =
-    ≼-trans (⊕-mono (zero-terms h n) (≼-trans (⊗-mono (⊗-mono h (≼-refl (power z (even n)))) (≼-refl _)) (none-left (power z (even n)) _))) zero-zero
+    ≼-trans (⊕-mono (zero-terms h n) (≼-trans (⊗-mono (⊗-mono h (≼-refl (power z (even n)))) (≼-refl _)) (zero-times (power z (even n)) _))) zero-zero
 
-argument-one : argument (whole 1) ≼ whole 0
+pub argument-one : argument (whole 1) ≼ whole 0
 unfolding argument whole recip _⊖_ _⊗_ _⊕_
 argument-one = omega arith
 
@@ -67,7 +67,7 @@ two-less-one : whole 2 ⊖ whole 1 ≼ whole 1
 unfolding whole _⊖_
 two-less-one = omega arith
 
-third-two : third ≼ argument (whole 2)
+pub third-two : third ≼ argument (whole 2)
 unfolding argument third oneOver whole recip _⊖_ _⊗_ _⊕_
 third-two = omega arith
 
@@ -132,7 +132,7 @@ one-top : (f : Ratio) → f ≼ whole 2 → (p : Above0 f) → whole 1 ≼ whole
 unfolding whole recip _⊗_
 one-top f l p = omega arith
 
-suc-pow : (m : ℕ) → suc m ≤ 2 ^ m
+pub suc-pow : (m : ℕ) → suc m ≤ 2 ^ m
 suc-pow zero = omega arith
 suc-pow (suc m) = omega (arith, suc-pow m)
 

@@ -2,9 +2,10 @@
 -- `pairs-hold` is the inclusion property and `pairs-isotone` inclusion isotony, both once for every such operation.
 -- Assumes nothing.
 use Rattle.exact.specs.Fraction.{Frac, _⊑_, zeroF, _⊞_, _⊟_, _⊠_, Positive, inverse}
-use Rattle.exact.specs.Bracket.{outward, smaller, larger, Bracket, _∈_, overPairs, quotients}
+use Rattle.exact.specs.Bracket.{outward, smaller, larger, Bracket, overPairs, quotients}
 use Rattle.exact.specs.laws.Decide.{decF}
 use Rattle.exact.specs.laws.Frac.{scale-mono, inverse-anti, ⊑-refl, ⊑-trans, ⊑-total, ⊞-mono, ⊟-mono, ⊠-mono, ⊠-anti, ⊠-comm, smaller-left, smaller-right, larger-left, larger-right, smaller-glb, larger-lub}
+use Rattle.exact.specs.Holding.{_∈_}
 
 -- x/y
 abbrev pub quotient : (x y : Frac) → Positive y → Frac

@@ -5,10 +5,10 @@ use mathlib.Core.Path.{_≡_, refl}
 use mathlib.Core.Option.{some}
 use native.Mathlib.Nat.{mul-le-mul-right}
 use native.Mathlib.Omega.{arith}
-use Rattle.exact.specs.Fraction.{Ratio, _≼_, Above0, whole, _⊕_, _⊗_, _⊖_, recip, power, Frac, _⊑_, Positive, zeroF, _⊠_, neg, ofRatio, magnitude, oneF}
+use Rattle.exact.specs.Fraction.{Ratio, _≼_, _≈_, Above0, whole, _⊕_, _⊗_, _⊖_, recip, power, Frac, _⊑_, Positive, zeroF, _⊠_, neg, ofRatio, magnitude, oneF, inverse}
 use Rattle.exact.specs.Bracket.{Bracket}
 use Rattle.exact.specs.Series.{expTerm, expLower, expTail, expUpper}
-use Rattle.exact.specs.Ends.{lnLower, lnUpper, lnLowerAt, lnUpperAt, expLowerAt, expUpperAt}
+use Rattle.exact.specs.LnExp.{lnLower, lnUpper, lnLowerAt, lnUpperAt, expLowerAt, expUpperAt}
 use Rattle.exact.specs.Formula.{Formula, const, mul, exp, bracketAt}
 use Rattle.exact.specs.laws.Containment.{Inside}
 use Rattle.exact.specs.laws.Decide.{decF, decided}
@@ -18,9 +18,9 @@ use Rattle.exact.specs.laws.Exp.{exp-lower-mono, exp-upper-mono}
 use Rattle.exact.specs.laws.Frac.{scale-mono, ⊑-refl, ⊑-trans, smaller-glb, larger-lub, neg-anti}
 use Rattle.exact.specs.laws.Ln.{ln-lower-mono, ln-upper-mono}
 use Rattle.exact.specs.laws.Pairs.{⊠-monotone}
-use Rattle.exact.specs.laws.Ratio.{_≈_, ≼-refl, ≼-trans, to≼, from≼, ⊗-mono, recip-anti, above-mono, ⊖-anti}
+use Rattle.exact.specs.laws.Ratio.{≼-refl, ≼-trans, to≼, from≼, ⊗-mono, recip-anti, above-mono, ⊖-anti}
 use Rattle.exact.specs.laws.Reduction.{LowerEnd, UpperEnd, least-one, least-all, most-zero, room, lower-from, upper-if, lower-if, upper-one-over}
-use Rattle.exact.specs.laws.Steps.{binary-inside, const-inside, exp-inside}
+use Rattle.exact.specs.laws.Inclusion.{binary-inside, const-inside, exp-inside}
 
 abbrev pub point : Frac → Bracket
 point c = record { lo = c; hi = c }
@@ -70,6 +70,18 @@ negated-product x y = omega arith
 pub product-negated : (x y : Ratio) → ofRatio x ⊠ neg (ofRatio y) ⊑ neg (ofRatio (x ⊗ y))
 unfolding ofRatio neg _⊗_ _⊠_
 product-negated x y = omega arith
+
+pub positive-of : (x : Ratio) → Above0 x → Positive (ofRatio x)
+unfolding ofRatio
+positive-of x h = record { above = h .above }
+
+pub inverse-least : (x : Ratio) (h : Above0 x) (q : Positive (ofRatio x)) → ofRatio (recip x h) ⊑ inverse (ofRatio x) q
+unfolding ofRatio recip inverse
+inverse-least x h q = let e : x .num - 0 ≡ x .num = omega arith in record { cross = rw e (omega arith) }
+
+pub inverse-most : (x : Ratio) (h : Above0 x) (q : Positive (ofRatio x)) → inverse (ofRatio x) q ⊑ ofRatio (recip x h)
+unfolding ofRatio recip inverse
+inverse-most x h q = let e : x .num - 0 ≡ x .num = omega arith in record { cross = rw e (omega arith) }
 
 -- The ends of e^ at a fraction and at its negative
 

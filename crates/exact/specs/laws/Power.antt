@@ -1,12 +1,11 @@
--- Powers: x^(p/q) = e^((p/q) ln x), x ≥ 1, has every lower end l with l^q ≤ x^p and every upper end u with x^p ≤ u^q, so that
--- a comparison of whole powers decides one of the ends (`power-below`, `power-above`); and the two ends of the N-th bracket
--- are near each other (`power-near`). Assumes nothing.
+-- Powers: x^(p/q) = e^((p/q) ln x), x ≥ 1, has every lower end l with l^q ≤ x^p and every upper end u with x^p ≤ u^q; and the
+-- two ends of the N-th bracket are near each other (`power-near`). Assumes nothing.
 use Prim.Native.Nat.{ℕ, zero, suc, _+_, _*_, _^_, _≤_, _<_}
 use native.Mathlib.Decide.{decLe}
 use native.Mathlib.Omega.{arith}
-use Rattle.exact.specs.Fraction.{Ratio, _≼_, Above0, whole, _⊕_, _⊗_, _⊖_, power}
+use Rattle.exact.specs.Fraction.{Ratio, _≼_, _≈_, Above0, whole, _⊕_, _⊗_, _⊖_, power}
 use Rattle.exact.specs.Series.{expLower, expUpper, oneOver, exponent}
-use Rattle.exact.specs.Ends.{ln2Lower, lnLower, lnUpper}
+use Rattle.exact.specs.LnExp.{ln2Lower, lnLower, lnUpper}
 use Rattle.exact.specs.laws.Equal.{≈-refl, ≈-trans, ⊗-cong, ⊗-cancel}
 use Rattle.exact.specs.laws.ExpSpread.{slack, spread-above}
 use Rattle.exact.specs.laws.Ln.{exponent-most, argument-below-third, ln-lower-upper}
@@ -14,7 +13,7 @@ use Rattle.exact.specs.laws.LnSeries.{series-lower-mono}
 use Rattle.exact.specs.laws.LogAbove.{above-power, ln-reaches, reaches-times}
 use Rattle.exact.specs.laws.LogBelow.{exp-ln-below}
 use Rattle.exact.specs.laws.Octaves.{ln2-below-one}
-use Rattle.exact.specs.laws.Ratio.{unit-left, _≈_, ≼-refl, ≼-trans, to≼, from≼, ⊕-mono, ⊗-mono, ⊗-comm, ⊗-assoc, distrib, power-mono, above-one}
+use Rattle.exact.specs.laws.Ratio.{one-times, ≼-refl, ≼-trans, to≼, from≼, ⊕-mono, ⊗-mono, ⊗-comm, ⊗-assoc, distrib, power-mono, above-one}
 use Rattle.exact.specs.laws.Reduction.{room, Most, most-upper, most-mono, most-times, least-times}
 use Rattle.exact.specs.laws.Width.{half, ninth, ln-width}
 
@@ -88,20 +87,6 @@ unfolding power
 product-power x y zero = unit
 product-power x y (suc q) = ≈-trans (⊗-cong (≈-refl (x ⊗ y)) (product-power x y q)) (four x y (power x q) (power y q))
 
--- c^q x^p ≤ r^q gives c l ≤ r
-pub power-below : (a x : Ratio) → whole 1 ≼ x → (c r : Ratio) → power c (a .den) ⊗ power x (a .num) ≼ power r (a .den)
-    → (m n : ℕ) → c ⊗ expLower (a ⊗ lnLower x m) n ≼ r
-power-below a x o c r h m n =
-    power-cancel _ r (a .den) (a .positive)
-    (≼-trans (to≼ (product-power c _ (a .den))) (≼-trans (⊗-mono (≼-refl _) (power-lower a x o m n)) h))
-
--- r^q ≤ c^q x^p gives r ≤ c u
-pub power-above : (a x : Ratio) (o : whole 1 ≼ x) (c r : Ratio) → power r (a .den) ≼ power c (a .den) ⊗ power x (a .num)
-    → (m n : ℕ) (g : Above0 (whole (suc n) ⊖ a ⊗ lnUpper x o m)) → r ≼ c ⊗ expUpper (a ⊗ lnUpper x o m) n g
-power-above a x o c r h m n g =
-    power-cancel r _ (a .den) (a .positive)
-    (≼-trans h (≼-trans (⊗-mono (≼-refl _) (power-upper a x o m n g)) (from≼ (product-power c _ (a .den)))))
-
 -- How near the ends are
 
 one-more : (k : ℕ) → whole k ⊗ whole 1 ⊕ whole 1 ≼ whole (suc k)
@@ -127,7 +112,7 @@ half-product : (x : Ratio) → x ≼ whole 1 → half ⊗ x ≼ whole 1
 unfolding half oneOver whole _⊗_
 half-product x h = omega arith
 
-half-below-one : (n : ℕ) → power half n ≼ whole 1
+pub half-below-one : (n : ℕ) → power half n ≼ whole 1
 unfolding power
 half-below-one zero = ≼-refl (whole 1)
 half-below-one (suc n) = half-product (power half n) (half-below-one n)
@@ -159,16 +144,16 @@ doubled : {y : Ratio} (c : ℕ) → y ≼ whole c → whole 2 ⊗ y ≼ whole (2
 unfolding whole _⊗_
 doubled {y} c h = omega (arith, h .cross)
 
-half-times : (c : ℕ) → whole c ⊗ power half c ≼ whole 1
+pub half-times : (c : ℕ) → whole c ⊗ power half c ≼ whole 1
 unfolding power
 half-times zero = none
 half-times (suc c) = half-step c (power half c) (half-below-one c) (half-times c)
 
 -- c/9^n ≤ 2^-k, for c and k at most n
-remainder : (c k n : ℕ) → c ≤ n → k ≤ n → whole c ⊗ power ninth n ≼ power half k
+pub remainder : (c k n : ℕ) → c ≤ n → k ≤ n → whole c ⊗ power ninth n ≼ power half k
 remainder c k n l m =
     ≼-trans (⊗-mono (≼-refl (whole c)) (≼-trans (ninth-powers n) (⊗-mono (half-falls c n l) (half-falls k n m))))
-    (≼-trans (from≼ (⊗-assoc (whole c) (power half c) (power half k))) (≼-trans (⊗-mono (half-times c) (≼-refl _)) (unit-left (power half k))))
+    (≼-trans (from≼ (⊗-assoc (whole c) (power half c) (power half k))) (≼-trans (⊗-mono (half-times c) (≼-refl _)) (to≼ (one-times (power half k)))))
 
 module _ (a x : Ratio) (o : whole 1 ≼ x) (c k n : ℕ) (b : a ⊗ whole (suc (exponent x)) ≼ whole c) (l : suc (4 * c + k) ≤ n) where
   -- (p/q) ln x moves by at most 2^-k from its lower to its upper end
@@ -194,7 +179,7 @@ module _ (a x : Ratio) (o : whole 1 ≼ x) (c k n : ℕ) (b : a ⊗ whole (suc (
       spread-above (power half k) (2 * c) k n (omega arith) (a ⊗ lnLower x n) (a ⊗ lnUpper x o n)
       (⊗-mono (≼-refl a) (ln-lower-upper x o n n)) argument-near argument-bound g
 
-whole-bound : (x : Ratio) (m : ℕ) → x ≼ whole m → x .num ≤ m * x .den
+pub whole-bound : (x : Ratio) (m : ℕ) → x ≼ whole m → x .num ≤ m * x .den
 unfolding whole
 whole-bound x m h = omega arith
 

@@ -4,9 +4,9 @@
 use Prim.Native.Nat.{ℕ, zero, suc, _+_, _*_, _^_, _≤_}
 use mathlib.Core.Option.{some}
 use native.Mathlib.Omega.{arith}
-use Rattle.exact.specs.Fraction.{Ratio, _≼_, Above0, whole, _⊗_, _⊖_, recip, power, Frac, _⊑_, Positive, _⊠_, neg, ofRatio, magnitude, oneF}
+use Rattle.exact.specs.Fraction.{Ratio, _≼_, _≈_, Above0, whole, _⊗_, _⊖_, recip, power, Frac, _⊑_, Positive, _⊠_, neg, ofRatio, magnitude, oneF}
 use Rattle.exact.specs.Series.{expLower, expUpper, oneOver, exponent}
-use Rattle.exact.specs.Ends.{lnLower, lnUpper, lnLowerAt, lnUpperAt, expLowerAt, expUpperAt}
+use Rattle.exact.specs.LnExp.{lnLower, lnUpper, lnLowerAt, lnUpperAt, expLowerAt, expUpperAt}
 use Rattle.exact.specs.Formula.{Formula, const, ln, bracketAt, powerOf}
 use Rattle.exact.specs.laws.Containment.{Inside, inside-wider, ln-lower-end, ln-upper-end}
 use Rattle.exact.specs.laws.Decide.{decF}
@@ -19,10 +19,10 @@ use Rattle.exact.specs.laws.Ln.{whole-mono}
 use Rattle.exact.specs.laws.LogAbove.{above-power}
 use Rattle.exact.specs.laws.Points.{point-inside, pair, scale-inside, signed-above, signed-product, product-signed, negated-product, product-negated, lower-at, upper-at, lower-at-negative, upper-at-negative, ln-low-above, ln-high-above, ln-low-below, ln-high-below, exp-of}
 use Rattle.exact.specs.laws.Power.{half-falls, power-lower, power-upper, power-there, power-near, power-cancel, product-power, exponent-bound}
-use Rattle.exact.specs.laws.Ratio.{_≈_, ≼-refl, ≼-trans, to≼, from≼, ⊕-upper, ⊗-mono, ⊗-assoc, recip-anti, power-mono, above-one}
+use Rattle.exact.specs.laws.Ratio.{one-times, ≼-refl, ≼-trans, to≼, from≼, ⊕-upper, ⊗-mono, ⊗-assoc, recip-anti, power-mono, above-one}
 use Rattle.exact.specs.laws.Reduction.{least-one, least-all, LowerEnd, UpperEnd}
 use Rattle.exact.specs.laws.Spread.{recip-above}
-use Rattle.exact.specs.laws.Steps.{ln-inside}
+use Rattle.exact.specs.laws.Inclusion.{ln-inside}
 use Rattle.exact.specs.laws.Width.{half}
 
 -- The ends of e^ and ln that make up an end of t^(p/q)
@@ -215,10 +215,6 @@ module _ (a : Ratio) (t : Frac) (k n : ℕ) (e : PowerEnds a t k n) where
       = power-cancel r _ (a .den) (a .positive) (≼-trans h (≼-trans (⊗-mono (≼-refl _) (e .upper)) (from≼ (product-power c (e .hi) (a .den))))) in
       ≼-trans (⊗-mono m (≼-refl _))
       (≼-trans (to≼ (⊗-assoc c (e .hi) _)) (≼-trans (⊗-mono (≼-refl c) (e .near)) (from≼ (⊗-assoc c (e .lo) (slack k)))))
-
-  one-times : (x : Ratio) → whole 1 ⊗ x ≈ x
-  unfolding whole _⊗_
-  one-times x = omega arith
 
   one-power : (q : ℕ) (x : Ratio) → power (whole 1) q ⊗ x ≈ x
   unfolding power

@@ -1,10 +1,9 @@
 -- Quotients r/t^(p/q): an exact comparison of r^q with c^q t^p bounds the N-th bracket of the quotient, for every N from a
 -- constant on. `cube-root-quotient` is the case of the reduced distance r/(E/P0)^(1/3). Assumes nothing.
-use Prim.Native.Nat.{ℕ, _+_, _-_, _^_, _≤_}
-use mathlib.Core.Path.{_≡_}
+use Prim.Native.Nat.{ℕ, _+_, _^_, _≤_}
 use mathlib.Core.Option.{some}
 use native.Mathlib.Omega.{arith}
-use Rattle.exact.specs.Fraction.{Ratio, _≼_, Above0, whole, _⊕_, _⊗_, _⊖_, recip, power, Frac, _⊑_, Positive, ofRatio, inverse, magnitude}
+use Rattle.exact.specs.Fraction.{Ratio, _≼_, _≈_, Above0, whole, _⊗_, _⊖_, recip, power, Frac, _⊑_, ofRatio, magnitude}
 use Rattle.exact.specs.Series.{oneOver, third}
 use Rattle.exact.specs.Formula.{const, div, bracketAt, powerOf}
 use Rattle.exact.specs.laws.Containment.{Inside}
@@ -12,34 +11,22 @@ use Rattle.exact.specs.laws.EndsMeet.{ofRatio-mono}
 use Rattle.exact.specs.laws.Equal.{≈-refl, ⊗-cancel}
 use Rattle.exact.specs.laws.ExpSpread.{slack}
 use Rattle.exact.specs.laws.Frac.{⊑-trans}
-use Rattle.exact.specs.laws.Points.{point, pair, point-inside, signed-above, signed-least, signed-most, signed-product, product-signed}
+use Rattle.exact.specs.laws.Points.{point, pair, point-inside, signed-above, signed-least, signed-most, signed-product, product-signed, positive-of, inverse-least, inverse-most}
 use Rattle.exact.specs.laws.Power.{power-cancel}
 use Rattle.exact.specs.laws.PowerEnds.{PowerEnds, power-ends, slack-above, less-above, ends-below, ends-above}
-use Rattle.exact.specs.laws.Ratio.{shift, _≈_, ≼-refl, ≼-trans, to≼, from≼, ⊗-mono, ⊗-comm, above-mono}
-use Rattle.exact.specs.laws.Steps.{div-inside}
+use Rattle.exact.specs.laws.Ratio.{shift, ≼-refl, ≼-trans, to≼, from≼, ⊗-mono, ⊗-comm, above-mono}
+use Rattle.exact.specs.laws.Inclusion.{div-inside}
 use Rattle.exact.specs.laws.Width.{half}
 
 -- A quotient r/t^(p/q)
 
-positive-of : (x : Ratio) → Above0 x → Positive (ofRatio x)
-unfolding ofRatio
-positive-of x h = record { above = h .above }
-
-inverse-least : (x : Ratio) (h : Above0 x) (q : Positive (ofRatio x)) → ofRatio (recip x h) ⊑ inverse (ofRatio x) q
-unfolding ofRatio recip inverse
-inverse-least x h q = let e : x .num - 0 ≡ x .num = omega arith in record { cross = rw e (omega arith) }
-
-inverse-most : (x : Ratio) (h : Above0 x) (q : Positive (ofRatio x)) → inverse (ofRatio x) q ⊑ ofRatio (recip x h)
-unfolding ofRatio recip inverse
-inverse-most x h q = let e : x .num - 0 ≡ x .num = omega arith in record { cross = rw e (omega arith) }
-
-over : (L r x : Ratio) (h : Above0 x) → L ⊗ x ≼ r → L ≼ r ⊗ recip x h
+pub quotient-least : (L r x : Ratio) (h : Above0 x) → L ⊗ x ≼ r → L ≼ r ⊗ recip x h
 unfolding recip _⊗_
-over L r x h l = omega arith
+quotient-least L r x h l = omega arith
 
-under : (U r x : Ratio) (h : Above0 x) → r ≼ U ⊗ x → r ⊗ recip x h ≼ U
+pub quotient-most : (U r x : Ratio) (h : Above0 x) → r ≼ U ⊗ x → r ⊗ recip x h ≼ U
 unfolding recip _⊗_
-under U r x h l = omega arith
+quotient-most U r x h l = omega arith
 
 swap-in : (L h w : Ratio) → w ⊗ (L ⊗ h) ≈ L ⊗ w ⊗ h
 unfolding _⊗_
@@ -58,7 +45,7 @@ module _ (a : Ratio) (t : Frac) (k n : ℕ) (e : PowerEnds a t k n) where
       (pair (ofRatio (recip (e .hi) h)) (ofRatio (recip (e .lo) (e .above)))) (pair (ofRatio L) (ofRatio U))
       (point-inside (ofRatio r) n) (e .inside) (positive-of _ (e .above)) (positive-of _ h) (inverse-least (e .hi) h) (inverse-most (e .lo) (e .above))
       (signed-above r) (signed-above _)
-      (⊑-trans (ofRatio-mono (over L r (e .hi) h l)) (signed-product r _)) (⊑-trans (product-signed r _) (ofRatio-mono (under U r (e .lo) (e .above) u)))
+      (⊑-trans (ofRatio-mono (quotient-least L r (e .hi) h l)) (signed-product r _)) (⊑-trans (product-signed r _) (ofRatio-mono (quotient-most U r (e .lo) (e .above) u)))
 
   -- c^q t^p ≤ r^q ≤ d^q t^p gives a bracket of r/t^(p/q) between any L a little below c and any U a little above d
   pub quotient-between : (r c d L U : Ratio) → Above0 (whole 1 ⊖ power half k)
@@ -91,12 +78,12 @@ third-power : (r : Ratio) → power r 3 ≈ power r (third .den)
 unfolding third oneOver
 third-power r = ≈-refl (power r 3)
 
-below : (y : Ratio) (m : ℕ) (u : Above0 y) → whole 1 ≼ whole m ⊗ y → recip y u ≼ whole m
+pub recip-below : (y : Ratio) (m : ℕ) (u : Above0 y) → whole 1 ≼ whole m ⊗ y → recip y u ≼ whole m
 unfolding whole recip _⊗_
-below y m u h = omega arith
+recip-below y m u h = omega arith
 
 recip-bound : (x : Ratio) (m : ℕ) → whole 1 ≼ whole m ⊗ x → (u : Above0 (magnitude (ofRatio x))) → recip (magnitude (ofRatio x)) u ≼ whole m
-recip-bound x m h u = below _ _ u (≼-trans h (⊗-mono (≼-refl (whole m)) (signed-least x)))
+recip-bound x m h u = recip-below _ _ u (≼-trans h (⊗-mono (≼-refl (whole m)) (signed-least x)))
 
 pub cube-root-ends : (x : Ratio) → Above0 x → x ≼ whole (2 ^ 34) → whole 1 ≼ whole (2 ^ 34) ⊗ x
     → (k n : ℕ) → 49 + k ≤ n → PowerEnds third (ofRatio x) k n
@@ -113,24 +100,3 @@ cube-root-quotient x r p h l k o c d L U f g i j n m =
     (≼-trans (from≼ (third-powers c _)) (≼-trans (⊗-mono (≼-refl (power c 3)) (signed-most x)) (≼-trans i (to≼ (third-power r)))))
     (≼-trans (from≼ (third-power r)) (≼-trans j (≼-trans (⊗-mono (≼-refl (power d 3)) (signed-least x)) (to≼ (third-powers d _)))))
     f g
-
--- the reduced distance from 0.34 to 24 has its brackets between 0.339 and 24.1
-
-unfoldable pub hundredths : ℕ → Ratio
-hundredths m = record { num = m; den = 100; positive = omega arith }
-
-unfoldable pub thousandths : ℕ → Ratio
-thousandths m = record { num = m; den = 1000; positive = omega arith }
-
-near-low : thousandths 339 ⊗ slack 10 ≼ hundredths 34 ⊗ (whole 1 ⊖ power half 10)
-unfolding thousandths hundredths half oneOver power whole _⊕_ _⊖_ _⊗_
-near-low = omega arith
-
-near-high : whole 24 ⊗ slack 10 ≼ thousandths 24100 ⊗ (whole 1 ⊖ power half 10)
-unfolding thousandths half oneOver power whole _⊕_ _⊖_ _⊗_
-near-high = omega arith
-
-pub reduced-distance : (x r : Ratio) → Above0 x → x ≼ whole (2 ^ 34) → whole 1 ≼ whole (2 ^ 34) ⊗ x
-    → power (hundredths 34) 3 ⊗ x ≼ power r 3 → power r 3 ≼ power (whole 24) 3 ⊗ x → (n : ℕ) → 59 ≤ n
-    → Inside (bracketAt (div (const (ofRatio r)) (powerOf (ofRatio third) (const (ofRatio x)))) n) (some (record { lo = ofRatio (thousandths 339); hi = ofRatio (thousandths 24100) }))
-reduced-distance x r p h l i j n m = cube-root-quotient x r p h l 10 (omega arith) (hundredths 34) (whole 24) (thousandths 339) (thousandths 24100) near-low near-high i j n m

@@ -1,14 +1,10 @@
--- Laws of the fractions from 0 up, an ordered semiring with division, and equality of value, `≈`.
+-- Laws of the fractions from 0 up, an ordered semiring with division.
 -- Orders are records, so that their fractions can be implicit arguments and `omega` reads them by their field. Assumes nothing.
 use Prim.Native.Nat.{ℕ, zero, suc, _+_, _*_, _-_, _≤_, _<_}
 use mathlib.Core.Path.{_≡_, ap}
 use native.Mathlib.Nat.{mul-pos, mul-le-mul, mul-le-mul-right, le-of-mul-le-mul-right}
 use native.Mathlib.Omega.{arith}
-use Rattle.exact.specs.Fraction.{Above0, Ratio, _≼_, _⊕_, _⊖_, _⊗_, power, recip, sum, whole}
-
-infix 40 _≈_
-pub record _≈_ (x y : Ratio) : Type 0 where
-  pub cross : x .num * y .den ≡ y .num * x .den
+use Rattle.exact.specs.Fraction.{Above0, Ratio, _≼_, _≈_, _⊕_, _⊖_, _⊗_, power, recip, sum, whole}
 
 -- Order
 
@@ -121,9 +117,9 @@ pub shift : (S r z : Ratio) → S ⊗ r ⊗ z ≈ S ⊗ z ⊗ r
 unfolding _⊗_
 shift S r z = omega arith
 
-pub unit-left : (x : Ratio) → whole 1 ⊗ x ≼ x
+pub one-times : (x : Ratio) → whole 1 ⊗ x ≈ x
 unfolding whole _⊗_
-unit-left x = omega arith
+one-times x = omega arith
 
 pub unit-right : (x : Ratio) → x ≼ x ⊗ whole 1
 unfolding whole _⊗_

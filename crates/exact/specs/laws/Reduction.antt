@@ -7,14 +7,14 @@ use mathlib.Core.Path.{_≡_, refl, subst}
 use mathlib.Core.Option.{Option, some}
 use native.Mathlib.Nat.{mul-le-mul-right, le-dest}
 use native.Mathlib.Omega.{arith}
-use Rattle.exact.specs.Fraction.{Ratio, _≼_, Above0, whole, _⊕_, _⊗_, _⊖_, recip, power, sum, Frac, _⊑_, zeroF, neg, ofRatio, magnitude}
+use Rattle.exact.specs.Fraction.{Ratio, _≼_, _≈_, Above0, whole, _⊕_, _⊗_, _⊖_, recip, power, sum, Frac, _⊑_, zeroF, neg, ofRatio, magnitude}
 use Rattle.exact.specs.Series.{factorial, expTerm, expLower, expUpper, oneOver}
-use Rattle.exact.specs.Ends.{expUpperOf, oneOverOf, expLowerAt, expUpperAt}
+use Rattle.exact.specs.LnExp.{expUpperOf, oneOverOf, expLowerAt, expUpperAt}
 use Rattle.exact.specs.laws.Addition.{sum-below-product, product-below-sum}
 use Rattle.exact.specs.laws.Decide.{decF, decAbove0, decided}
 use Rattle.exact.specs.laws.EndsMeet.{signed, ofRatio-mono, first-term, one-below-exp}
 use Rattle.exact.specs.laws.Exp.{exp-lower-grows, exp-lower-upper, exp-lower-mono}
-use Rattle.exact.specs.laws.Ratio.{nothing-times, above-one, _≈_, ≼-refl, ≼-trans, to≼, from≼, ⊕-mono, ⊗-mono}
+use Rattle.exact.specs.laws.Ratio.{nothing-times, above-one, ≼-refl, ≼-trans, to≼, from≼, ⊕-mono, ⊗-mono}
 use Rattle.exact.specs.laws.Sums.{after, after-is}
 use Rattle.exact.specs.laws.Width.{half, exp-width}
 

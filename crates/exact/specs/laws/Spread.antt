@@ -5,9 +5,9 @@ use mathlib.Core.Path.{_≡_, refl, ap}
 use native.Mathlib.Nat.{le-of-mul-le-mul-right, mul-le-mul-right}
 use native.Mathlib.Decide.{decLe}
 use native.Mathlib.Omega.{arith}
-use Rattle.exact.specs.Fraction.{Ratio, _≼_, Above0, whole, _⊕_, _⊗_, _⊖_, recip, power, sum, Frac, _⊑_, Positive, _⊞_, neg, ofRatio, magnitude, oneF}
+use Rattle.exact.specs.Fraction.{Ratio, _≼_, _≈_, Above0, whole, _⊕_, _⊗_, _⊖_, recip, power, sum, Frac, _⊑_, Positive, _⊞_, neg, ofRatio, magnitude, oneF}
 use Rattle.exact.specs.Series.{expLower, oneOver, seriesLower, climb, exponent, fraction, argument}
-use Rattle.exact.specs.Ends.{ln2Lower, lnLower, lnUpper, lnLowerAt, lnUpperAt}
+use Rattle.exact.specs.LnExp.{ln2Lower, lnLower, lnUpper, lnLowerAt, lnUpperAt}
 use Rattle.exact.specs.laws.Decide.{decF, decided, decided₂}
 use Rattle.exact.specs.laws.Divisors.{magnitude-above, one-magnitude, one-recip}
 use Rattle.exact.specs.laws.EndsMeet.{above-moves, positive-zero, magnitude-mono}
@@ -15,7 +15,7 @@ use Rattle.exact.specs.laws.Frac.{⊑-trans}
 use Rattle.exact.specs.laws.Lipschitz.{exp-moves}
 use Rattle.exact.specs.laws.Ln.{exponent-most, whole-mono}
 use Rattle.exact.specs.laws.Octaves.{ln-moves, squeeze, rises, less-one, zero-terms, twice-zero, zero-zero, over-one, difference}
-use Rattle.exact.specs.laws.Ratio.{exchange, nothing-times, _≈_, ≼-refl, ≼-trans, to≼, ⊕-mono, ⊕-assoc, ⊗-mono, ⊕-upper, recip-anti, above-whole}
+use Rattle.exact.specs.laws.Ratio.{exchange, nothing-times, ≼-refl, ≼-trans, to≼, ⊕-mono, ⊕-assoc, ⊗-mono, ⊕-upper, recip-anti, above-whole}
 use Rattle.exact.specs.laws.Width.{ninth, ln-width}
 
 -- ln, from 1 up
@@ -152,7 +152,7 @@ spread s h δ c n = δ ⊗ recip (magnitude s) (magnitude-above s h) ⊕ whole c
 fewer : (Z N : Ratio) (a c : ℕ) → a ≤ c → Z ⊕ whole a ⊗ N ≼ Z ⊕ whole c ⊗ N
 fewer Z N a c h = ⊕-mono (≼-refl Z) (⊗-mono (whole-mono a c h) (≼-refl N))
 
-together : (a b : ℕ) (N : Ratio) → whole a ⊗ N ⊕ whole b ⊗ N ≈ whole (a + b) ⊗ N
+pub together : (a b : ℕ) (N : Ratio) → whole a ⊗ N ⊕ whole b ⊗ N ≈ whole (a + b) ⊗ N
 unfolding whole _⊕_ _⊗_
 together a b N = omega arith
 

@@ -4,15 +4,15 @@ use Prim.Native.Nat.{ℕ, zero, suc, _*_, _≤_, _<_}
 use mathlib.Core.Path.{_≡_, refl, ap}
 use native.Mathlib.Nat.{mul-le-mul-right}
 use native.Mathlib.Omega.{arith}
-use Rattle.exact.specs.Fraction.{Ratio, _≼_, Above0, whole, _⊕_, _⊗_, _⊖_, recip, power, sum}
+use Rattle.exact.specs.Fraction.{Ratio, _≼_, _≈_, Above0, whole, _⊕_, _⊗_, _⊖_, recip, power, sum}
 use Rattle.exact.specs.Series.{expTerm, expLower, expTail, oneOver, even, odd, lnTail, gap, seriesLower, seriesUpper, exponent, fraction, argument, third}
-use Rattle.exact.specs.Ends.{ln2Lower, ln2Upper, lnLower, lnUpper}
+use Rattle.exact.specs.LnExp.{ln2Lower, ln2Upper, lnLower, lnUpper}
 use Rattle.exact.specs.laws.Divisors.{gap-third}
 use Rattle.exact.specs.laws.Exp.{term-suc}
 use Rattle.exact.specs.laws.Ln.{argument-below-third}
 use Rattle.exact.specs.laws.LnSeries.{gap-anti}
 use Rattle.exact.specs.laws.Positive.{odd-pos}
-use Rattle.exact.specs.laws.Ratio.{unit-right, _≈_, ≼-refl, ≼-trans, to≼, ⊕-mono, ⊕-comm, ⊗-mono, ⊕-upper, distrib, recip-anti, power-mono}
+use Rattle.exact.specs.laws.Ratio.{unit-right, ≼-refl, ≼-trans, to≼, ⊕-mono, ⊕-comm, ⊗-mono, ⊕-upper, distrib, recip-anti, power-mono}
 use Rattle.exact.specs.laws.Sums.{after, sum-grows}
 
 -- e^
@@ -52,7 +52,7 @@ term-below-sum : (y : Ratio) (d k : ℕ) → expTerm y d ≼ expLower y (after (
 unfolding expLower sum
 term-below-sum y d k = ≼-trans (≼-trans (⊕-upper _ _) (to≼ (⊕-comm (expTerm y d) (sum (expTerm y) d)))) (sum-grows (expTerm y) (suc d) k)
 
-after-suc : (d k : ℕ) → after (suc d) k ≡ suc (after d k)
+pub after-suc : (d k : ℕ) → after (suc d) k ≡ suc (after d k)
 after-suc d zero = refl
 after-suc d (suc k) = ap suc (after-suc d k)
 

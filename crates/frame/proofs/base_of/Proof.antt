@@ -1,10 +1,9 @@
 -- `frame::base_of` meets its contract. Assumes nothing.
 use Prim.Native.Nat.{ℕ}
 use mathlib.Core.Path.{_≡_, refl, ap₂, _∙_}
-use mathlib.Core.Bool.{Bool}
+use mathlib.Core.Bool.{Bool, cond}
 use borrow.Author.Needs.{needs}
-use Rattle.guidance.specs.Choice.{pick}
-use Rattle.frame.specs.Spelling.{baseOf}
+use Rattle.frame.specs.laws.Spelling.{baseOf}
 use Rattle.frame.proofs.base_of.Statement.{statement}
 use Rattle.frame.proofs.base_of.Tie as tie
 
@@ -27,8 +26,8 @@ choose-requires-3 : tie.Need-choose-requires-3
 choose-requires-3 c κs = search needs
 
 -- a choice by equal tests, with equal second choices
-chosen : (k : ℕ) {a b : Bool} {x y : ℕ} → a ≡ b → x ≡ y → pick a k x ≡ pick b k y
-chosen k p q = ap₂ (λ t z. pick t k z) p q
+chosen : (k : ℕ) {a b : Bool} {x y : ℕ} → a ≡ b → x ≡ y → cond a k x ≡ cond b k y
+chosen k p q = ap₂ (λ t z. cond t k z) p q
 
 returns : tie.Need-returns
 unfolding baseOf

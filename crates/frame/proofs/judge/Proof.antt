@@ -103,12 +103,13 @@ returns-6 c =
     let p3 = p4 .before .before in
     let p2 = p3 .before .before in
     let p1 = p2 .before .before in
+    let within = sym (c .before .before .is-beyond .ensures) ∙ c .before .if5 .left in
     simp (
       sym (p1 .before .is-outside .ensures) ∙ p1 .if1 .left,
       sym (p2 .before .setting-outside .ensures) ∙ p2 .if2 .left,
       sym (p3 .before .quantity-outside .ensures) ∙ p3 .if3 .left,
       sym (p4 .before .heat-missing .ensures) ∙ p4 .if4 .left,
-      sym (c .before .before .is-beyond .ensures) ∙ c .before .if5 .left,
+      within,
       lt-ltb _ _ (c .if6 .taken),
     )
 
@@ -119,12 +120,13 @@ returns-7 c =
     let p3 = p4 .before .before in
     let p2 = p3 .before .before in
     let p1 = p2 .before .before in
+    let near = sym (c .before .before .is-beyond .ensures) ∙ c .before .if5 .left in
     simp (
       sym (p1 .before .is-outside .ensures) ∙ p1 .if1 .left,
       sym (p2 .before .setting-outside .ensures) ∙ p2 .if2 .left,
       sym (p3 .before .quantity-outside .ensures) ∙ p3 .if3 .left,
       sym (p4 .before .heat-missing .ensures) ∙ p4 .if4 .left,
-      sym (c .before .before .is-beyond .ensures) ∙ c .before .if5 .left,
+      near,
       le-ltb _ _ (c .if6 .left),
     )
 

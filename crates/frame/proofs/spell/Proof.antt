@@ -1,20 +1,24 @@
 -- `frame::spell` meets its contract. The loop's invariant: what is left of the line decides, and gives the bytes that are left. Assumes nothing.
 use mathlib.Core.Path.{_≡_}
 use Prim.Native.Nat.{_-_}
+use lib.ListN.{length}
 use borrow.Author.Needs.{needs}
 use native.Mathlib.Omega.{arith}
-use Rattle.frame.specs.laws.Spelling.{Begun, begin, high-bad, low-bad, again, ended}
+use Rattle.frame.specs.laws.Spelling.{Begun, begin, high-bad, low-bad, again, other-length, other-character, frame-spelled}
 use Rattle.frame.proofs.spell.Statement.{statement}
 use Rattle.frame.proofs.spell.Tie as tie
 
 abbrev Inv-loop : tie.InvT-loop
-Inv-loop line frame₀ i₀ frame i = Begun line frame i
+Inv-loop line frame bytes₀ i₀ bytes i = (length line ≡ 44) × Begun 22 line bytes i
 
 abbrev μ-loop : tie.MeasureT-loop
-μ-loop line frame₀ i₀ frame i = 22 - i
+μ-loop line frame bytes₀ i₀ bytes i = 22 - i
+
+returns : tie.Need-returns Inv-loop μ-loop
+returns c = other-length _ (c .if1 .taken)
 
 loop-holds : tie.Need-loop-holds Inv-loop μ-loop
-loop-holds c = begin _ _ (c .before .pre .room)
+loop-holds c = (search needs, begin _ _ (search needs))
 
 mul-at : tie.Need-mul-at Inv-loop μ-loop
 mul-at c = omega arith
@@ -34,25 +38,29 @@ shared-slice-read-digit-of-2 c = omega arith
 digit-of-requires-2 : tie.Need-digit-of-requires-2 Inv-loop μ-loop
 digit-of-requires-2 c κs = search needs
 
-returns : tie.Need-returns Inv-loop μ-loop
-returns c =
-    high-bad (c .before .before .before .before .before .before .loop .inv) (omega arith) (c .before .before .before .digit-of .ensures) (c .before .digit-of2 .ensures) (c .if1 .taken)
-
 returns-2 : tie.Need-returns-2 Inv-loop μ-loop
 returns-2 c =
-    low-bad (c .before .before .before .before .before .before .before .loop .inv) (omega arith) (c .before .before .before .before .digit-of .ensures) (c .before .before .digit-of2 .ensures) (c .before .if1 .left) (c .if2 .taken)
+    let k = c .before .before .before in
+    let i = k .before .before .before .loop .inv in
+    other-character _ (i .0) (high-bad (i .1) (omega arith) (k .digit-of .ensures) (c .before .digit-of2 .ensures) (c .if2 .taken))
 
-mul-frame : tie.Need-mul-frame Inv-loop μ-loop
-mul-frame c = omega arith
+returns-3 : tie.Need-returns-3 Inv-loop μ-loop
+returns-3 c =
+    let k = c .before .before .before .before in
+    let i = k .before .before .before .loop .inv in
+    other-character _ (i .0) (low-bad (i .1) (omega arith) (k .digit-of .ensures) (c .before .before .digit-of2 .ensures) (c .before .if2 .left) (c .if3 .taken))
 
-add-frame : tie.Need-add-frame Inv-loop μ-loop
-add-frame c = omega arith
+mul-bytes : tie.Need-mul-bytes Inv-loop μ-loop
+mul-bytes c = omega arith
 
-cast-frame : tie.Need-cast-frame Inv-loop μ-loop
-cast-frame c = omega arith
+add-bytes : tie.Need-add-bytes Inv-loop μ-loop
+add-bytes c = omega arith
 
-element-write-frame : tie.Need-element-write-frame Inv-loop μ-loop
-element-write-frame c = omega arith
+cast-bytes : tie.Need-cast-bytes Inv-loop μ-loop
+cast-bytes c = omega arith
+
+array-write-bytes : tie.Need-array-write-bytes Inv-loop μ-loop
+array-write-bytes c = omega arith
 
 add-i : tie.Need-add-i Inv-loop μ-loop
 add-i c = omega arith
@@ -62,10 +70,15 @@ loop-less c = omega arith
 
 loop-again : tie.Need-loop-again Inv-loop μ-loop
 loop-again c =
-    again (c .before .before .before .before .before .before .before .loop .inv) (omega arith) (c .before .before .before .before .digit-of .ensures) (c .before .before .digit-of2 .ensures) (omega arith) (c .before .if1 .left) (c .if2 .left)
+    let k = c .before .before .before .before in
+    let i = k .before .before .before .loop .inv in
+    (i .0, again (i .1) (omega arith) (k .digit-of .ensures) (c .before .before .digit-of2 .ensures) (omega arith) (c .before .if2 .left) (c .if3 .left))
 
-returns-3 : tie.Need-returns-3 Inv-loop μ-loop
-returns-3 c = let e : c .before .loop .i ≡ 22 = omega arith in ended _ _ (search needs) (rw e at (c .before .loop .inv))
+returns-4 : tie.Need-returns-4 Inv-loop μ-loop
+returns-4 c =
+    let i = c .before .loop .inv in
+    let e : c .before .loop .i ≡ 22 = omega arith in
+    frame-spelled _ (i .0) (rw e at (i .1))
 
 pub spell-spec : {M : Type 1} → statement M
 spell-spec =
@@ -73,6 +86,7 @@ spell-spec =
     (tie.spec
     Inv-loop
     μ-loop
+    returns
     loop-holds
     mul-at
     shared-slice-read-digit-of
@@ -80,13 +94,13 @@ spell-spec =
     add-digit-of
     shared-slice-read-digit-of-2
     digit-of-requires-2
-    returns
     returns-2
-    mul-frame
-    add-frame
-    cast-frame
-    element-write-frame
+    returns-3
+    mul-bytes
+    add-bytes
+    cast-bytes
+    array-write-bytes
     add-i
     loop-less
     loop-again
-    returns-3)
+    returns-4)

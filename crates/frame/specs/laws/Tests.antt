@@ -8,7 +8,7 @@ use borrow.Author.Tests.{ne-eqb, eqb-false}
 use Rattle.guidance.specs.declared.Case.{Case}
 use Rattle.guidance.specs.Substances.{betaOf, heatOf}
 use Rattle.guidance.specs.Cases.{Fields}
-use Rattle.guidance.specs.Words.{Heated}
+use Rattle.guidance.specs.CloudWords.{Heated}
 use Rattle.frame.specs.declared.Verdict.{Verdict}
 use Rattle.frame.specs.laws.Limits.{neither, inside}
 use Rattle.frame.specs.Verdicts.{outside, settingOutside, quantityOutside, heatMissing, tests, firstOf}

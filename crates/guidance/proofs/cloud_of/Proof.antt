@@ -3,7 +3,7 @@ use mathlib.Core.Path.{_∙_, ap}
 use mathlib.Core.Bool.{_&&_}
 use lib.Dec.{eqb, ltb}
 use borrow.Author.Needs.{needs}
-use Rattle.guidance.specs.Words.{partsOf}
+use Rattle.guidance.specs.CloudWords.{partsOf}
 use Rattle.guidance.specs.laws.Energies.{cloud-is}
 use Rattle.guidance.proofs.cloud_of.Statement.{statement}
 use Rattle.guidance.proofs.cloud_of.Tie as tie

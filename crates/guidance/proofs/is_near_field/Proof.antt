@@ -1,10 +1,12 @@
 -- `guidance::is_near_field` meets its contract. Assumes nothing.
+use mathlib.Core.Bool.{cond}
 use borrow.Author.Needs.{needs}
 use mathlib.Core.Path.{_∙_, ap}
 use native.Mathlib.Omega.{arith}
 use lib.Dec.{eqb, lit≤}
-use Rattle.guidance.specs.Distances.{nearer, millionths, cube02, cube025}
-use Rattle.guidance.specs.laws.Limits.{pick-most}
+use Rattle.guidance.specs.Distances.{nearer, cube02, cube025}
+use Rattle.guidance.specs.CloudWords.{millionths}
+use Rattle.guidance.specs.laws.Limits.{cond-most}
 use Rattle.guidance.specs.laws.Comparisons.{near-field-is}
 use Rattle.guidance.proofs.is_near_field.Statement.{statement}
 use Rattle.guidance.proofs.is_near_field.Tie as tie
@@ -16,7 +18,7 @@ is-nearer-requires : tie.Need-is-nearer-requires
 is-nearer-requires c κs =
     record {
       placed = c .before .before .pre;
-      most = rw (c .choose .ensures) (pick-most (eqb (c .before .before .args .c .state) 1) _ _ (lit≤ tt) (lit≤ tt));
+      most = rw (c .choose .ensures) (cond-most (eqb (c .before .before .args .c .state) 1) _ _ (lit≤ tt) (lit≤ tt));
     }
 
 returns : tie.Need-returns

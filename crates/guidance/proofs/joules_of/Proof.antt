@@ -2,7 +2,7 @@
 use mathlib.Core.Path.{refl}
 use native.Mathlib.Omega.{arith}
 use borrow.Author.Needs.{needs}
-use Rattle.guidance.specs.Words.{joulesOf}
+use Rattle.guidance.specs.CloudWords.{joulesOf}
 use Rattle.guidance.specs.laws.Limits.{released-most, placed-most, joules-most}
 use Rattle.guidance.proofs.joules_of.Statement.{statement}
 use Rattle.guidance.proofs.joules_of.Tie as tie

@@ -1,12 +1,13 @@
 -- `guidance::scaled_by` meets its contract. Assumes nothing.
+use mathlib.Core.Bool.{cond}
 use Prim.Native.Nat.{_*_}
 use mathlib.Core.Path.{ap}
 use native.Mathlib.Nat.{mul-le-mul}
 use native.Mathlib.Omega.{arith}
 use lib.Dec.{lit≤}
 use borrow.Author.Needs.{needs}
-use Rattle.guidance.specs.Words.{scaledBy}
-use Rattle.guidance.specs.laws.Limits.{pick-most}
+use Rattle.guidance.specs.CloudWords.{scaledBy}
+use Rattle.guidance.specs.laws.Limits.{cond-most}
 use Rattle.guidance.proofs.scaled_by.Statement.{statement}
 use Rattle.guidance.proofs.scaled_by.Tie as tie
 
@@ -16,7 +17,7 @@ choose-requires c κs = search needs
 mul-result : tie.Need-mul-result
 mul-result c =
     rw (c .choose .ensures)
-    (omega (arith, mul-le-mul (c .before .pre) (pick-most (c .before .args .k .aerosol) 3 1 {n = 3} (lit≤ tt) (lit≤ tt))))
+    (omega (arith, mul-le-mul (c .before .pre) (cond-most (c .before .args .k .aerosol) 3 1 {n = 3} (lit≤ tt) (lit≤ tt))))
 
 returns : tie.Need-returns
 unfolding scaledBy

@@ -1,12 +1,13 @@
 -- `guidance::weight_of` meets its contract. Assumes nothing.
+use mathlib.Core.Bool.{cond}
 use Prim.Native.Nat.{_*_}
 use mathlib.Core.Path.{ap}
 use native.Mathlib.Nat.{mul-le-mul}
 use native.Mathlib.Omega.{arith}
 use lib.Dec.{lit≤}
 use borrow.Author.Needs.{needs}
-use Rattle.guidance.specs.Words.{weightOf}
-use Rattle.guidance.specs.laws.Limits.{pick-most}
+use Rattle.guidance.specs.CloudWords.{weightOf}
+use Rattle.guidance.specs.laws.Limits.{cond-most}
 use Rattle.guidance.proofs.Products.{air-parts-most}
 use Rattle.guidance.proofs.weight_of.Statement.{statement}
 use Rattle.guidance.proofs.weight_of.Tie as tie
@@ -21,7 +22,7 @@ mul-result-2 : tie.Need-mul-result-2
 mul-result-2 c =
     let s = c .before .before in
     rw (c .choose .ensures)
-    (omega (arith, mul-le-mul (air-parts-most _ _ (s .pre .1) (s .pre .0)) (pick-most (s .args .k .aerosol) 4 1 {n = 4} (lit≤ tt) (lit≤ tt))))
+    (omega (arith, mul-le-mul (air-parts-most _ _ (s .pre .1) (s .pre .0)) (cond-most (s .args .k .aerosol) 4 1 {n = 4} (lit≤ tt) (lit≤ tt))))
 
 returns : tie.Need-returns
 unfolding weightOf

@@ -1,20 +1,19 @@
 -- The domain of accepted cases: bounds of E and E/P0, and Rx between its thresholds, in the order of fractions. Assumes nothing.
 use Prim.Native.Nat.{ℕ, suc, _*_, _^_, _≤_, _<_}
 use mathlib.Core.Path.{_≡_}
-use mathlib.Core.Bool.{Bool, true, false, _&&_}
+use mathlib.Core.Bool.{Bool, true, false, _&&_, cond}
 use native.Mathlib.Nat.{mul-pos, mul-le-mul, mul-le-mul-right}
 use native.Mathlib.Decide.{decLe}
 use native.Mathlib.Omega.{arith}
 use lib.Dec.{ltb}
 use borrow.Author.Tests.{lt-ltb, le-ltb}
-use Rattle.exact.specs.Fraction.{Ratio, _≼_, Above0, whole, _⊗_, recip, power}
-use Rattle.exact.specs.laws.Ratio.{_≈_, ≼-trans, to≼, from≼, above-mono}
+use Rattle.exact.specs.Fraction.{Ratio, _≼_, _≈_, Above0, whole, _⊗_, recip, power}
+use Rattle.exact.specs.laws.Ratio.{≼-trans, to≼, from≼, above-mono}
 use Rattle.guidance.specs.declared.Case.{Case}
-use Rattle.guidance.specs.Choice.{pick}
 use Rattle.guidance.specs.Clouds.{over, heterogeneous, deflagrates, energy}
 use Rattle.guidance.specs.Distances.{metres, cubed, nearer, farther, cube02, cube025, cube034, cube24}
 use Rattle.guidance.specs.Cases.{Air, Accepted}
-use Rattle.guidance.specs.Words.{Heated, reduction, joulesOf, partsOf}
+use Rattle.guidance.specs.CloudWords.{Heated, reduction, joulesOf, partsOf}
 use Rattle.guidance.specs.laws.Limits.{placed-most, joules-least, parts-least, parts-most}
 use Rattle.guidance.specs.laws.Energies.{energy-is}
 use Rattle.guidance.specs.laws.Order.{least-of}
@@ -37,10 +36,10 @@ unfolding _⊗_ whole
 words-most true j p m z h = omega arith
 words-most false j p m z h = omega arith
 
-lean-below : (s m : ℕ) → pick (ltb s m) s 1 ≤ pick (ltb s m) m 1
+lean-below : (s m : ℕ) → cond (ltb s m) s 1 ≤ cond (ltb s m) m 1
 lean-below s m = go (decLe (suc s) m)
   where
-    go : Dec (s < m) → pick (ltb s m) s 1 ≤ pick (ltb s m) m 1
+    go : Dec (s < m) → cond (ltb s m) s 1 ≤ cond (ltb s m) m 1
     go (yes h) = rw (lt-ltb s m h) (omega arith)
     go (no h) = rw (le-ltb s m (omega arith)) (omega arith)
 

@@ -1,7 +1,7 @@
 -- Bounds of what is read from the tables and of the energy as words. Assumes nothing.
 use Prim.Native.Nat.{ℕ, zero, suc, _+_, _*_, _-_, _≤_, _<_}
 use mathlib.Core.Path.{_≡_, refl, sym, _∙_, ap}
-use mathlib.Core.Bool.{Bool, true, false, _&&_}
+use mathlib.Core.Bool.{Bool, true, false, _&&_, cond}
 use native.Mathlib.Nat.{mul-le-mul, mul-pos}
 use native.Mathlib.Decide.{decLe}
 use native.Mathlib.Omega.{arith}
@@ -9,22 +9,21 @@ use lib.Dec.{leb, eqb, ltb, leb→le, lit≤}
 use lib.ListN.{getD, List·getD-eq-default}
 use borrow.Author.Tests.{ne-eqb}
 use Rattle.guidance.specs.declared.Case.{Case}
-use Rattle.guidance.specs.Choice.{pick}
 use Rattle.guidance.specs.Substances.{betas, betaOf, classOf, heatOf}
 use Rattle.guidance.specs.Clouds.{atLeast1, rangeOf}
 use Rattle.guidance.specs.Cases.{Fields}
-use Rattle.guidance.specs.Words.{joulesOf, partsOf}
-use Rattle.guidance.specs.laws.Tables.{at-entry}
+use Rattle.guidance.specs.CloudWords.{joulesOf, partsOf}
+use Rattle.exact.specs.laws.Tables.{both, at-entry}
 
 -- Choices
 
-pub pick-most : (t : Bool) (a b : ℕ) {n : ℕ} → a ≤ n → b ≤ n → pick t a b ≤ n
-pick-most true a b h k = h
-pick-most false a b h k = k
+pub cond-most : (t : Bool) (a b : ℕ) {n : ℕ} → a ≤ n → b ≤ n → cond t a b ≤ n
+cond-most true a b h k = h
+cond-most false a b h k = k
 
-pub pick-least : (t : Bool) (a b : ℕ) {n : ℕ} → n ≤ a → n ≤ b → n ≤ pick t a b
-pick-least true a b h k = h
-pick-least false a b h k = k
+pub cond-least : (t : Bool) (a b : ℕ) {n : ℕ} → n ≤ a → n ≤ b → n ≤ cond t a b
+cond-least true a b h k = h
+cond-least false a b h k = k
 
 -- Substances
 
@@ -32,11 +31,11 @@ small : ℕ → ℕ → Bool
 small k x = leb x 273
 
 pub beta-most : (s : ℕ) → betaOf s ≤ 273
-unfolding betas betaOf small
+unfolding betas betaOf small both
 beta-most s = go (decLe (suc s) 76)
   where
     go : Dec (s < 76) → getD betas s 0 ≤ 273
-    go (yes h) = leb→le _ 273 (at-entry small betas tt s h)
+    go (yes h) = leb→le _ 273 (at-entry small 0 betas tt s h)
     go (no h) = rw (List·getD-eq-default betas 0 {n = s} (omega arith)) (omega arith)
 
 pub heat-most : (s given : ℕ) → given ≤ 150000 → heatOf s given ≤ 150000
@@ -46,11 +45,11 @@ heat-most s (suc given) h = h
 
 pub class-least : (s : ℕ) → 1 ≤ classOf s
 unfolding classOf
-class-least s = pick-least (leb s 10) 1 _ (lit≤ tt) (pick-least (leb s 27) 2 _ (lit≤ tt) (pick-least (leb s 57) 3 4 (lit≤ tt) (lit≤ tt)))
+class-least s = cond-least (leb s 10) 1 _ (lit≤ tt) (cond-least (leb s 27) 2 _ (lit≤ tt) (cond-least (leb s 57) 3 4 (lit≤ tt) (lit≤ tt)))
 
 pub class-most : (s : ℕ) → classOf s ≤ 4
 unfolding classOf
-class-most s = pick-most (leb s 10) 1 _ (lit≤ tt) (pick-most (leb s 27) 2 _ (lit≤ tt) (pick-most (leb s 57) 3 4 (lit≤ tt) (lit≤ tt)))
+class-most s = cond-most (leb s 10) 1 _ (lit≤ tt) (cond-most (leb s 27) 2 _ (lit≤ tt) (cond-most (leb s 57) 3 4 (lit≤ tt) (lit≤ tt)))
 
 -- the least value 1
 pub range-above : {n m : ℕ} → n ≡ m → 2 < n → n - 2 ≡ atLeast1 (m - 2)
@@ -112,16 +111,16 @@ module _ (c : Case) (f : Fields c) where
   released-most = omega (arith, mul-le-mul (f .mass-most) (heat-most (c .substance) (c .heat) (f .heat-most)))
 
   abbrev ground : ℕ
-  ground = pick (eqb (c .placement) 1) 2 1
+  ground = cond (eqb (c .placement) 1) 2 1
 
   abbrev lean : ℕ
-  lean = pick (ltb (c .stoichiometric) (c .mean)) (c .stoichiometric) 1
+  lean = cond (ltb (c .stoichiometric) (c .mean)) (c .stoichiometric) 1
 
   ground-most : ground ≤ 2
-  ground-most = pick-most (eqb (c .placement) 1) 2 1 (lit≤ tt) (lit≤ tt)
+  ground-most = cond-most (eqb (c .placement) 1) 2 1 (lit≤ tt) (lit≤ tt)
 
   lean-most : lean ≤ 50000
-  lean-most = pick-most (ltb (c .stoichiometric) (c .mean)) (c .stoichiometric) 1 (f .stoichiometric-most) (lit≤ tt)
+  lean-most = cond-most (ltb (c .stoichiometric) (c .mean)) (c .stoichiometric) 1 (f .stoichiometric-most) (lit≤ tt)
 
   pub placed-most : c .mass * heatOf (c .substance) (c .heat) * ground ≤ 300000000000000
   placed-most = omega (arith, mul-le-mul released-most ground-most)
@@ -132,12 +131,12 @@ module _ (c : Case) (f : Fields c) where
 
   pub joules-least : 0 < heatOf (c .substance) (c .heat) → 1 ≤ joulesOf c
   unfolding joulesOf
-  joules-least h = mul-pos (mul-pos (mul-pos (f .mass) h) (pick-least (eqb (c .placement) 1) 2 1 (lit≤ tt) (lit≤ tt))) (pick-least (ltb (c .stoichiometric) (c .mean)) (c .stoichiometric) 1 (f .stoichiometric) (lit≤ tt))
+  joules-least h = mul-pos (mul-pos (mul-pos (f .mass) h) (cond-least (eqb (c .placement) 1) 2 1 (lit≤ tt) (lit≤ tt))) (cond-least (ltb (c .stoichiometric) (c .mean)) (c .stoichiometric) 1 (f .stoichiometric) (lit≤ tt))
 
   pub parts-least : 0 < partsOf c
   unfolding partsOf
-  parts-least = pick-least (ltb (c .stoichiometric) (c .mean)) (c .mean) 1 (f .mean) (lit≤ tt)
+  parts-least = cond-least (ltb (c .stoichiometric) (c .mean)) (c .mean) 1 (f .mean) (lit≤ tt)
 
   pub parts-most : partsOf c ≤ 50000
   unfolding partsOf
-  parts-most = pick-most (ltb (c .stoichiometric) (c .mean)) (c .mean) 1 (f .mean-most) (lit≤ tt)
+  parts-most = cond-most (ltb (c .stoichiometric) (c .mean)) (c .mean) 1 (f .mean-most) (lit≤ tt)

@@ -6,8 +6,8 @@ use native.Mathlib.Decide.{decLe}
 use native.Mathlib.Omega.{arith}
 use lib.Dec.{ltb}
 use borrow.Author.Tests.{lt-ltb, le-ltb, ltb-true, ltb-false}
-use Rattle.exact.specs.Fraction.{Ratio, _≼_}
-use Rattle.exact.specs.laws.Ratio.{_≈_, ≼-trans, to≼, from≼}
+use Rattle.exact.specs.Fraction.{Ratio, _≼_, _≈_}
+use Rattle.exact.specs.laws.Ratio.{≼-trans, to≼, from≼}
 use Rattle.guidance.specs.Distances.{less}
 
 pub ltb-same : {a b m n : ℕ} → (b ≤ a → n ≤ m) → (n ≤ m → b ≤ a) → ltb a b ≡ ltb m n

@@ -2,7 +2,7 @@
 -- Assumes nothing.
 use Prim.Native.Nat.{ℕ, zero, suc, _+_, _*_, _-_, _≤_, _<_}
 use mathlib.Core.Path.{_≡_, refl, sym, _∙_, ap}
-use mathlib.Core.Bool.{Bool, true, false, _&&_}
+use mathlib.Core.Bool.{Bool, true, false, cond}
 use mathlib.Core.List.{List, [], _∷_}
 use native.Mathlib.Nat.{le-of-suc-le-suc, not-suc-le-zero}
 use native.Mathlib.Decide.{decLe}
@@ -11,27 +11,35 @@ use lib.Dec.{T, ltb, leb, ltb→lt}
 use lib.IntN.{ℤ, pos, negsuc}
 use lib.ListN.{getD, length}
 use borrow.Author.Tests.{le-leb, lt-leb}
-use Rattle.signed.specs.Parts.{up, dn}
-use Rattle.guidance.specs.Choice.{pick}
-use Rattle.guidance.specs.Damage.{table, notAbove, tenthsOfPercent, damage, Neighbours}
-use Rattle.guidance.specs.laws.Tables.{both-left, both-right}
+use Rattle.signed.specs.TwoParts.{up, dn}
+use Rattle.guidance.specs.Damage.{table, notAbove, tenthsOfPercent, damage}
+use Rattle.exact.specs.laws.Tables.{both, both-left, both-right}
+
+-- two readings that are equal or neighbours in the table, with 0 standing before 1 percent
+pub record Neighbours (lower upper : ℕ) : Type 0 where
+  pub place : ℕ
+  pub step : ℕ
+  pub step-most : step ≤ 1
+  pub within : place + step ≤ 108
+  pub lower-is : lower ≡ tenthsOfPercent place
+  pub upper-is : upper ≡ tenthsOfPercent (place + step)
 
 -- each entry is above the one before it, the first above b
-abbrev pub rises : ℕ → List ℕ → Bool
+abbrev rises : ℕ → List ℕ → Bool
 rises b [] = true
-rises b (x ∷ xs) = ltb b x && rises x xs
+rises b (x ∷ xs) = both (ltb b x) (rises x xs)
 
--- the one test
-pub table-rises : T (rises 0 table)
-unfolding table
+-- the one test: strict rise, and the first entry is above 266
+table-rises : T (rises 266 table)
+unfolding table both
 table-rises = tt
 
 module _ (b x : ℕ) (xs : List ℕ) (t : T (rises b (x ∷ xs))) where
   rises-head : b < x
-  rises-head = ltb→lt b x (both-left (ltb b x) (rises x xs) t)
+  rises-head = ltb→lt b x (both-left _ _ t)
 
   rises-tail : T (rises x xs)
-  rises-tail = both-right (ltb b x) (rises x xs) t
+  rises-tail = both-right _ _ t
 
 -- carried to each entry
 above-start : (b : ℕ) (xs : List ℕ) → T (rises b xs) → (k : ℕ) → k < length xs → b < getD xs k 0
@@ -50,7 +58,7 @@ unfolding table
 table-length = refl
 
 pub table-entries : (k m : ℕ) → k < m → m < 108 → getD table k 0 < getD table m 0
-table-entries k m l h = entries-rise 0 table table-rises k m l (rw table-length h)
+table-entries k m l h = entries-rise 266 table table-rises k m l (rw table-length h)
 
 -- Where a reading stops
 
@@ -102,19 +110,15 @@ count-most : (xs : List ℕ) (p : ℕ) → notAbove xs p ≤ length xs
 count-most [] p = omega arith
 count-most (x ∷ xs) p = go (count-most xs p) (leb (10 * x) p)
   where
-    go : notAbove xs p ≤ length xs → (b : Bool) → pick b (suc (notAbove xs p)) (notAbove xs p) ≤ suc (length xs)
+    go : notAbove xs p ≤ length xs → (b : Bool) → cond b (suc (notAbove xs p)) (notAbove xs p) ≤ suc (length xs)
     go h true = omega arith
     go h false = omega arith
 
 -- Outside the table
 
-from-266 : T (rises 266 table)
-unfolding table
-from-266 = tt
-
 pub before-table : {p : ℕ} → p < 2670 → 0 ≡ tenthsOfPercent (notAbove table p)
 unfolding tenthsOfPercent
-before-table {p} h = rw (none-counted 266 table p from-266 (omega arith)) refl
+before-table {p} h = rw (none-counted 266 table p table-rises (omega arith)) refl
 
 last-entry : getD table 107 0 ≡ 809
 unfolding table
@@ -178,8 +182,8 @@ damage-is-greatest p =
       place = notAbove table p;
       is = refl;
       within = table-count p;
-      not-above = within-count 0 table p table-rises;
-      greatest = λ k h l. tenths-rise (suc k) (notAbove table p) (beyond-count 0 table p table-rises k (omega (arith, table-length)) l) (decLe (suc k) 99) (decLe (notAbove table p) 99);
+      not-above = within-count 266 table p table-rises;
+      greatest = λ k h l. tenths-rise (suc k) (notAbove table p) (beyond-count 266 table p table-rises k (omega (arith, table-length)) l) (decLe (suc k) 99) (decLe (notAbove table p) 99);
     }
 
 from-counts : {m n : ℕ} → OneMore m n → n ≤ 108 → Neighbours (tenthsOfPercent m) (tenthsOfPercent n)
@@ -188,13 +192,13 @@ from-counts {m} {n} h l =
     record { place = m; step = n - m; step-most = omega arith; within = omega arith; lower-is = refl; upper-is = ap tenthsOfPercent e }
 
 nothing-read : {q : ℕ} → q ≤ 1 → notAbove table q ≡ 0
-nothing-read h = none-counted 0 table _ table-rises (omega arith)
+nothing-read h = none-counted 266 table _ table-rises (omega arith)
 
 -- the damages at two ends at most 2 thousandths apart
 pub neighbours : (l u : ℤ) → up l + dn u ≤ up u + dn l → up u + dn l ≤ up l + dn u + 2 → Neighbours (damage l) (damage u)
 unfolding damage tenthsOfPercent
 neighbours (pos a) (pos b) h k =
-    from-counts (one-more 0 table a b table-rises (omega arith) (omega arith)) (table-count b)
+    from-counts (one-more 266 table a b table-rises (omega arith) (omega arith)) (table-count b)
 neighbours (pos a) (negsuc b) h k = absurd (omega arith)
 neighbours (negsuc a) (pos b) h k =
     rw (nothing-read {q = b} (omega arith)) (from-counts {m = 0} {n = 0} (record { least = omega arith; most = omega arith }) (omega arith))

@@ -1,4 +1,4 @@
--- `known_cases::lengths_refused` is safe and ends after 80 turns. Assumes nothing.
+-- `known_cases::lengths_refused` is safe and ends after 80 lengths. Assumes nothing.
 use Prim.Native.Nat.{_-_}
 use mathlib.Core.Path.{sym}
 use lib.Seq.{length-take-le}
@@ -25,9 +25,6 @@ slice-aggregate-is-refused-for-length c = sym (length-take-le _ _ (search needs)
 is-refused-for-length-requires : tie.Need-is-refused-for-length-requires Inv-loop μ-loop
 is-refused-for-length-requires c κs = search needs
 
-fault-requires : tie.Need-fault-requires Inv-loop μ-loop
-fault-requires c κs = search needs
-
 sum-requires : tie.Need-sum-requires Inv-loop μ-loop
 sum-requires c κs = search needs
 
@@ -53,7 +50,6 @@ lengths-refused-spec =
     array-share-prefix-frame
     slice-aggregate-is-refused-for-length
     is-refused-for-length-requires
-    fault-requires
     sum-requires
     add-n
     loop-less

@@ -1,35 +1,24 @@
 -- `layout::put_half` meets its contract: two stores are `sets` by computation. Assumes nothing.
-use borrow.Author.Needs.{needs}
+use native.Mathlib.Numerals.{add-one}
+use native.Mathlib.Omega.{arith}
+use lib.ListN.{length-set}
 use Rattle.layout.specs.Bytes.{two}
+use borrow.Author.Needs.{needs}
 use Rattle.layout.proofs.put_half.Statement.{statement}
 use Rattle.layout.proofs.put_half.Tie as tie
 
-low-byte-requires : tie.Need-low-byte-requires
-low-byte-requires c κs = search needs
-
-slice-write-s : tie.Need-slice-write-s
-slice-write-s c = search needs
-
-low-byte-requires-2 : tie.Need-low-byte-requires-2
-low-byte-requires-2 c κs = search needs
-
-slice-write-s-2 : tie.Need-slice-write-s-2
-slice-write-s-2 c = search needs
-
-same-length : tie.Need-same-length
-same-length c = search needs
-
 returns : tie.Need-returns
 unfolding two
-returns c = cc
+returns c = record { all = simp (add-one) (cc) }
 
 pub put-half-spec : {M : Type 1} → statement M
 put-half-spec =
     tie.close
     (tie.spec
-    low-byte-requires
-    slice-write-s
-    low-byte-requires-2
-    slice-write-s-2
-    same-length
+    (λ c κs. search needs)
+    (λ c. search needs)
+    (λ c κs. search needs)
+    (λ c. search needs)
+    (λ c. simp length-set (omega arith))
+    (λ c. search needs)
     returns)

@@ -1,9 +1,6 @@
 -- `layout::put_probit` meets its contract. Assumes nothing.
-use mathlib.Core.Path.{_≡_, ap, ap₂, _∙_}
-use Prim.Native.Nat.{ℕ}
+use mathlib.Core.Path.{_≡_, ap, _∙_}
 use native.Mathlib.Omega.{arith}
-use lib.Seq.{sets}
-use denote.Ref.{now}
 use Rattle.layout.specs.Bytes.{twos, words, signeds}
 use Rattle.layout.specs.Places.{probitOf}
 use Rattle.signed.specs.Reading.{back}
@@ -26,11 +23,14 @@ same-length c = search needs
 returns : tie.Need-returns
 unfolding probitOf signeds words
 returns c =
-    let start = c .before .before .before .before .before .before .before .before .before in
+    let ends = c .before .before in
+    let upper = ends .before .before in
+    let lower = upper .before .before in
+    let start = lower .before .before .before in
     let p = start .args .p in
-    let l : c .before .before .before .before .before .before .bits .result ≡ twos (p .lower) = c .before .before .before .before .before .before .bits .ensures ∙ ap twos (back (p .lower) (omega (arith, start .pre .1 .lower))) in
-    let u : c .before .before .before .before .bits2 .result ≡ twos (p .upper) = c .before .before .before .before .bits2 .ensures ∙ ap twos (back (p .upper) (omega (arith, start .pre .1 .upper))) in
-    c .before .before .put-ends .ensures ∙ ap₂ (λ (a b : ℕ). sets (now (start .args .s)) 0 (words a b)) l u
+    let l : lower .bits .result ≡ twos (p .lower) = lower .bits .ensures ∙ ap twos (back (p .lower) (omega (arith, start .pre .1 .lower))) in
+    let u : upper .bits2 .result ≡ twos (p .upper) = upper .bits2 .ensures ∙ ap twos (back (p .upper) (omega (arith, start .pre .1 .upper))) in
+    rw (l, u) at (ends .put-ends .ensures)
 
 pub put-probit-spec : {M : Type 1} → statement M
 put-probit-spec =

@@ -16,7 +16,7 @@ same-length c = search needs
 
 returns : tie.Need-returns
 unfolding rangeByte
-returns c = refl
+returns c = record { all = refl }
 
 pub put-range-spec : {M : Type 1} → statement M
 put-range-spec = tie.close (tie.spec cast-s slice-write-s same-length returns)

@@ -2,7 +2,7 @@
 use mathlib.Core.Path.{sym, subst₂}
 use lib.IntN.{ℤ}
 use borrow.Author.Needs.{needs}
-use Rattle.probits.specs.Steps.{CountedIn}
+use Rattle.probits.specs.Terms.{CountedIn}
 use Rattle.probits.proofs.Counting.{counted, reads-lower, reads-upper}
 use Rattle.probits.proofs.thousandths.Statement.{statement}
 use Rattle.probits.proofs.thousandths.Tie as tie

@@ -1,7 +1,7 @@
 -- `span::add_aligned` meets its contract. Assumes nothing.
 use native.Mathlib.Omega.{arith}
 use borrow.Author.Needs.{needs}
-use Rattle.span.proofs.Operations.{sum-ordered, sum-roundable, sum-rounded}
+use Rattle.span.proofs.Operations.{sum-ordered, sum-cuttable, sum-rounded}
 use Rattle.span.proofs.add_aligned.Statement.{statement}
 use Rattle.span.proofs.add_aligned.Tie as tie
 
@@ -20,20 +20,23 @@ add-l c = search needs
 add-h : tie.Need-add-h
 add-h c = search needs
 
-norm-requires : tie.Need-norm-requires
-norm-requires c κs =
+cast-s : tie.Need-cast-s
+cast-s c = search needs
+
+cut-requires : tie.Need-cut-requires
+cut-requires c κs =
     let up = c .before .before .shr-up .ensures in
     let down = c .before .before .before .shr-down .ensures in
     let g = c .before .before .before .before .before .before .pre in
-    sum-roundable _ _ _ _ _ _ g (down .small) (up .small) (sum-ordered _ _ _ _ g down up) (omega arith) (omega arith)
+    sum-cuttable _ _ _ _ _ _ _ g (down .small) (up .small) (sum-ordered _ _ _ _ g down up) (omega arith) (omega arith) (omega arith)
 
 returns : tie.Need-returns
 returns c =
     let up = c .before .before .before .shr-up .ensures in
     let down = c .before .before .before .before .shr-down .ensures in
     let g = c .before .before .before .before .before .before .before .pre in
-    sum-rounded _ _ _ _ g down up _ _ _ (omega arith) (omega arith) (c .norm .ensures)
+    sum-rounded _ _ _ _ g down up _ _ _ (omega arith) (omega arith) (c .cut .ensures)
 
 pub add-aligned-spec : {M : Type 1} → statement M
 add-aligned-spec =
-    tie.close (tie.spec sub-d shr-down-requires shr-up-requires add-l add-h norm-requires returns)
+    tie.close (tie.spec sub-d shr-down-requires shr-up-requires add-l add-h cast-s cut-requires returns)

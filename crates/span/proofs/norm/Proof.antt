@@ -1,12 +1,12 @@
 -- `span::norm` meets its contract: the highest set bit of hi is bit k, and z zeros stand above it. Assumes nothing.
-use mathlib.Core.Path.{_≡_}
-use Prim.Native.Nat.{ℕ, suc, _+_, _*_, _/_, _%_, _-_, _^_, _≤_, _<_}
+use mathlib.Core.Path.{_≡_, ap}
+use Prim.Native.Nat.{ℕ, suc, _+_, _*_, _%_, _-_, _^_, _≤_, _<_}
 use native.Mathlib.Nat.{mod-eq-of-lt}
 use native.Mathlib.Omega.{arith}
 use lib.Count.{leadingZeros, leading-top}
 use borrow.Author.Needs.{needs}
-use Rattle.span.specs.Rounding.{Roundable, Rounded}
-use Rattle.span.proofs.Rounding.{exact, cut}
+use Rattle.span.specs.Rounding.{Cuttable, Roundable, Rounded}
+use Rattle.span.proofs.Rounding.{exact}
 use Rattle.span.proofs.norm.Statement.{statement}
 use Rattle.span.proofs.norm.Tie as tie
 
@@ -29,15 +29,20 @@ shifted-up lo hi e h l =
     let high : hi * 2 ^ s % 2 ^ 64 ≡ hi * 2 ^ s = mod-eq-of-lt (omega (arith, r .normal)) in
     rw (low, high) r
 
-shifted-down : (lo hi e : ℕ) → Roundable lo hi e → leadingZeros 64 hi < 33
-    → Rounded lo hi e (record { lo = lo / 2 ^ (33 - leadingZeros 64 hi); hi = hi / 2 ^ (33 - leadingZeros 64 hi) + 1; e = e + (33 - leadingZeros 64 hi) })
-shifted-down lo hi e h l =
-    let t = top lo hi e h in cut lo hi e (t .k) (h .ordered) (t .least) (t .most) (33 - leadingZeros 64 hi) (omega arith)
-
--- l, h and f are what the source computes
-lowered : (lo hi e l h f : ℕ) → Roundable lo hi e → leadingZeros 64 hi < 33
-    → l ≡ lo / 2 ^ (33 - leadingZeros 64 hi) → h ≡ hi / 2 ^ (33 - leadingZeros 64 hi) + 1 → f ≡ e + (33 - leadingZeros 64 hi) → Rounded lo hi e (record { lo = l; hi = h; e = f })
-lowered lo hi e l h f g z el eh ef = rw (el, eh, ef) (shifted-down lo hi e g z)
+-- z zeros stand above bit k = 63 - z = 30 + (33 - z)
+cuttable : (lo hi e : ℕ) → Roundable lo hi e → leadingZeros 64 hi < 33 → Cuttable lo hi e (33 - leadingZeros 64 hi)
+cuttable lo hi e h l =
+    let t = top lo hi e h in
+    let s = 33 - leadingZeros 64 hi in
+    let low : t .k ≡ 30 + s = omega arith in
+    let high : suc (t .k) ≡ 31 + s = omega arith in
+    record {
+      ordered = h .ordered;
+      least = omega (arith, ap (λ (i : ℕ). 2 ^ i) low, t .least);
+      most = omega (arith, ap (λ (i : ℕ). 2 ^ i) high, t .most);
+      few = omega arith;
+      room = h .most;
+    }
 
 at : (c : tie.Start) → Top (c .args .hi) (leadingZeros 64 (c .args .hi))
 at c = top _ _ _ (c .pre)
@@ -60,45 +65,15 @@ sub-f c = omega (arith, at (c .before))
 sub-s : tie.Need-sub-s
 sub-s c = search needs
 
-cast-l-2 : tie.Need-cast-l-2
-cast-l-2 c = search needs
-
-shr-l : tie.Need-shr-l
-shr-l c = search needs
-
-cast-h-2 : tie.Need-cast-h-2
-cast-h-2 c = search needs
-
-shr-h : tie.Need-shr-h
-shr-h c = search needs
-
-add-h : tie.Need-add-h
-add-h c = omega (arith, shifted-down _ _ _ (c .before .pre) (c .if1 .left) .normal .most)
-
-add-f : tie.Need-add-f
-add-f c = search needs
+cut-requires : tie.Need-cut-requires
+cut-requires c κs = cuttable _ _ _ (c .before .pre) (c .if1 .left)
 
 returns : tie.Need-returns
 returns c = shifted-up _ _ _ (c .before .pre) (c .if1 .taken)
 
 returns-2 : tie.Need-returns-2
-returns-2 c = lowered _ _ _ _ _ _ (c .before .pre) (c .if1 .left) (omega arith) (omega arith) (omega arith)
+returns-2 c = search needs
 
 pub norm-spec : {M : Type 1} → statement M
 norm-spec =
-    tie.close
-    (tie.spec
-    cast-l
-    shl-l
-    cast-h
-    shl-h
-    sub-f
-    sub-s
-    cast-l-2
-    shr-l
-    cast-h-2
-    shr-h
-    add-h
-    add-f
-    returns
-    returns-2)
+    tie.close (tie.spec cast-l shl-l cast-h shl-h sub-f sub-s cut-requires returns returns-2)

@@ -3,8 +3,8 @@ use Prim.Native.Nat.{_-_}
 use native.Mathlib.Omega.{arith}
 use lib.ListN.{length}
 use borrow.Author.Needs.{needs}
-use Rattle.text.specs.Streams.{Taken}
-use Rattle.text.proofs.Turns.{taken-none, ready-again, turn, goes-on}
+use Rattle.text.specs.Promises.{Taken}
+use Rattle.text.proofs.Feeding.{taken-none, ready-again, turn, goes-on}
 use Rattle.text.proofs.feed.Statement.{statement}
 use Rattle.text.proofs.feed.Tie as tie
 
@@ -16,7 +16,9 @@ abbrev μ-loop : tie.MeasureT-loop
 μ-loop part out₀ stream₀ used₀ written₀ out stream used written = length part - used
 
 loop-holds : tie.Need-loop-holds Inv-loop μ-loop
-loop-holds c = taken-none (c .before .before .args .s) (c .before .before .args .part .now) (c .before .before .args .out .now) (c .before .before .pre .sound)
+loop-holds c =
+    let start = c .before .before in
+    taken-none (start .args .s) (start .args .part .now) (start .args .out .now) (start .pre .sound)
 
 sub-if1 : tie.Need-sub-if1 Inv-loop μ-loop
 sub-if1 c = omega arith
@@ -46,23 +48,32 @@ part-step-end-2 : tie.Need-part-step-end-2 Inv-loop μ-loop
 part-step-end-2 c = search needs
 
 step-requires : tie.Need-step-requires Inv-loop μ-loop
-step-requires c κs = ready-again (c .before .before .before .before .loop .inv) (c .before .before .before .before .before .before .before .pre) (c .before .before .if1 .left)
+step-requires c κs =
+    let loop = c .before .before .before .before in
+    ready-again (loop .loop .inv) (loop .before .before .before .pre) (c .before .before .if1 .left)
 
 add-used : tie.Need-add-used Inv-loop μ-loop
 add-used c =
-    let both = turn (c .before .before .before .before .before .before .before .before .before .loop .inv) (c .before .before .before .before .step .ensures) in
-    omega (arith, both .used, c .before .before .before .before .before .before .before .before .before .before .before .before .pre .numbers)
+    let stepped = c .before .before .before .before in
+    let loop = stepped .before .before .before .before .before in
+    omega (arith, turn (loop .loop .inv) (stepped .step .ensures) .used, loop .before .before .before .pre .numbers)
 
 add-written : tie.Need-add-written Inv-loop μ-loop
 add-written c =
-    let both = turn (c .before .before .before .before .before .before .before .before .before .before .loop .inv) (c .before .before .before .before .before .step .ensures) in
-    omega (arith, both .written, c .before .before .before .before .before .before .before .before .before .before .before .before .before .good .1 .1 .0 .0)
+    let stepped = c .before .before .before .before .before in
+    let loop = stepped .before .before .before .before .before in
+    omega (arith, turn (loop .loop .inv) (stepped .step .ensures) .written, loop .before .before .before .good .1 .1 .0 .0)
 
 loop-less : tie.Need-loop-less Inv-loop μ-loop
-loop-less c = goes-on (c .before .before .before .before .before .before .before .before .before .before .loop .inv) (c .before .before .before .before .before .step .ensures) (c .before .before .before .before .before .before .before .before .before .loop-test .taken)
+loop-less c =
+    let stepped = c .before .before .before .before .before in
+    let test = stepped .before .before .before .before in
+    goes-on (test .before .loop .inv) (stepped .step .ensures) (test .loop-test .taken)
 
 loop-again : tie.Need-loop-again Inv-loop μ-loop
-loop-again c = turn (c .before .before .before .before .before .before .before .before .before .before .loop .inv) (c .before .before .before .before .before .step .ensures)
+loop-again c =
+    let stepped = c .before .before .before .before .before in
+    turn (stepped .before .before .before .before .before .loop .inv) (stepped .step .ensures)
 
 same-length-2 : tie.Need-same-length-2 Inv-loop μ-loop
 same-length-2 c = c .before .loop .inv .same

@@ -13,7 +13,9 @@ same-length c = search needs
 
 returns : tie.Need-returns
 returns c =
-    finished-line (c .before .before .before .before .before .before .before .pre) (omega (arith, c .before .before .before .before .if1 .taken)) (c .before .before .put-held .kept .1 .0) (c .before .before .put-held .ensures)
+    let some = c .before .before .before .before in
+    let put = c .before .before .put-held in
+    finished-line (some .before .before .before .pre) (omega (arith, some .if1 .taken)) (put .kept .1 .0) (put .ensures)
 
 returns-2 : tie.Need-returns-2
 returns-2 c = finished-none (c .before .before .before .args .out .now) (omega (arith, c .if1 .left))

@@ -4,7 +4,7 @@ use mathlib.Core.Path.{sym}
 use native.Mathlib.Nat.{le-of-lt}
 use lib.Seq.{length-take-le}
 use borrow.Author.Needs.{needs}
-use Rattle.text.proofs.Steps.{inside, taken-rest, taken-line}
+use Rattle.text.proofs.LineTaken.{inside, taken-rest, taken-line}
 use Rattle.text.proofs.step.Statement.{statement}
 use Rattle.text.proofs.step.Tie as tie
 
@@ -17,7 +17,12 @@ hold-requires c κs = search needs
 returns : tie.Need-returns
 returns c =
     record {
-      taken = taken-rest (c .before .before .before .before .before .args .out .now) (c .before .before .line-end .ensures) (c .before .if1 .taken) (c .hold .ensures);
+      taken =
+          taken-rest
+          (c .before .before .before .before .before .args .out .now)
+          (c .before .before .line-end .ensures)
+          (c .before .if1 .taken)
+          (c .hold .ensures);
       goes = λ h. omega arith;
     }
 
@@ -35,24 +40,28 @@ put-line-requires c κs =
 
 add-t15 : tie.Need-add-t15
 add-t15 c =
-    let within = inside (c .before .before .before .before .before .before .before .before .before .before .before .args .part .now) (c .before .before .before .before .before .before .before .before .line-end .ensures) (c .before .before .before .before .before .before .before .if1 .left) in
-    omega (arith, within, c .before .before .before .before .before .before .before .before .before .before .before .pre .numbers)
+    let ends = c .before .before .before .before .before .before .before in
+    let start = ends .before .before .before .before in
+    omega (arith, inside (start .args .part .now) (ends .before .line-end .ensures) (ends .if1 .left), start .pre .numbers)
 
 add-t9 : tie.Need-add-t9
 add-t9 c =
-    let within = inside (c .before .before .before .before .before .before .before .before .before .before .before .args .part .now) (c .before .before .before .before .before .before .before .before .line-end .ensures) (c .before .before .before .before .before .before .before .if1 .left) in
-    omega (arith, within, c .before .before .before .before .before .before .before .before .before .before .before .pre .numbers)
+    let ends = c .before .before .before .before .before .before .before in
+    let start = ends .before .before .before .before in
+    omega (arith, inside (start .args .part .now) (ends .before .line-end .ensures) (ends .if1 .left), start .pre .numbers)
 
 same-length : tie.Need-same-length
 same-length c = search needs
 
 returns-2 : tie.Need-returns-2
 returns-2 c =
-    let start = c .before .before .before .before .before .before .before .before .before .before .before in
-    let end = c .before .before .before .before .before .before .before .before .line-end in
-    let within = inside (start .args .part .now) (end .ensures) (c .before .before .before .before .before .before .before .if1 .left) in
+    let put = c .before .before .before .before .put-line in
+    let ends = c .before .before .before .before .before .before .before in
+    let start = ends .before .before .before .before in
+    let end = ends .before .line-end .ensures in
+    let within = inside (start .args .part .now) end (ends .if1 .left) in
     record {
-      taken = taken-line (start .pre .sound) (end .ensures) within (start .pre .room) (c .before .before .before .before .put-line .kept .1 .1 .0) (c .before .before .before .before .put-line .ensures);
+      taken = taken-line (start .pre .sound) end within (start .pre .room) (put .kept .1 .1 .0) (put .ensures);
       goes = λ h. omega arith;
     }
 

@@ -8,8 +8,7 @@ use Rattle.frame.specs.declared.Refusal.{Refusal}
 use Rattle.frame.specs.declared.Verdict.the-variants.{Refused}
 use Rattle.frame.specs.Refusals.{number}
 use Rattle.frame.specs.Verdicts.{lineVerdict}
-use Rattle.frame.specs.KnownCases.{thirdLine}
-use Rattle.frame.specs.laws.Known.{known}
+use Rattle.frame.specs.laws.Examples.{thirdLine, examples}
 use Rattle.text.specs.Lines.{lf, ended, left, lastLine, linesOf}
 use Rattle.text.specs.Digits.{places, decimal, upper, hexadecimal}
 use Rattle.text.specs.Records.{said, Answers, Record, Text}
@@ -62,4 +61,4 @@ three-records
     (linesOf (lf ∷ replicate 44 71 ++ (lf ∷ thirdLine)))
     (49 ∷ 32 ∷ 82 ∷ 49 ∷ lf ∷ 50 ∷ 32 ∷ 82 ∷ 50 ∷ lf ∷ 51 ∷ 32 ∷ 82 ∷ 54 ∷ lf ∷ [])
 unfolding linesOf ended left lastLine decimal places
-three-records = one (refused 1 Length (known .empty-line)) (one (refused 2 Digit (known .letters-G)) (one (refused 3 Heat (known .third-line)) none))
+three-records = one (refused 1 Length (examples .empty-line)) (one (refused 2 Digit (examples .letters-G)) (one (refused 3 Heat (examples .third-line)) none))

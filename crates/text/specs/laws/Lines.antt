@@ -9,7 +9,7 @@ use lib.Dec.{eqb}
 use borrow.Author.Tests.{eqb-true, eq-eqb, ne-eqb}
 use Rattle.text.specs.laws.Settled.{settle}
 use Rattle.text.specs.Lines.{lf, ended, left}
-use Rattle.text.specs.Parts.{endOf}
+use Rattle.text.specs.Feeding.{endOf}
 
 -- an input in two parts: the second begins with what the first has left
 pub ended-append : (p a b : List ℕ) → ended p (a ++ b) ≡ ended p a ++ ended (left p a) b

@@ -5,14 +5,15 @@ use mathlib.Core.Logic.{⊎-elim}
 use mathlib.Core.List.{List, [], _++_, append-assoc}
 use native.Mathlib.Nat.{suc-add, eq-zero-or-pos}
 use native.Mathlib.Omega.{arith}
-use lib.ListN.{length, take}
+use lib.ListN.{length}
 use Rattle.text.specs.declared.Stream.{Stream}
 use Rattle.text.specs.declared.Fed.{Fed}
 use Rattle.text.specs.Lines.{ended, left, lastLine, linesOf}
 use Rattle.text.specs.laws.Lines.{ended-append, left-append}
 use Rattle.text.specs.Records.{Text}
 use Rattle.text.specs.laws.Texts.{text-append}
-use Rattle.text.specs.Streams.{Stands, Ready, Feeds}
+use Rattle.text.specs.Streams.{Stands}
+use Rattle.text.specs.Promises.{Ready, Feeds}
 use Rattle.text.specs.Runs.{Run}
 use Rattle.text.specs.Runs.Run.{ends, goes}
 
@@ -23,17 +24,16 @@ pub run-text
     Stands s lines p →
     Text (suc lines) (ended p input ++ lastLine (left p input)) output
 unfolding ended left
-run-text (ends f) lines p st = f .text lines p st
-run-text (goes {part = part} {r = r} {input = input} f run) lines p st =
-    let a = take (r .used) part in
+run-text (ends last) lines p st = last lines p st
+run-text (goes {bytes = a} {input = input} told reached run) lines p st =
     rw (
       ended-append p a input,
       left-append p a input,
       append-assoc (ended p a) (ended (left p a) input) (lastLine (left (left p a) input)),
     )
     (text-append
-    (f .taken .text lines p st)
-    (rw (suc-add lines (length (ended p a))) (run-text run (lines + length (ended p a)) (left p a) (f .taken .reached .stands lines p st))))
+    (told lines p st)
+    (rw (suc-add lines (length (ended p a))) (run-text run (lines + length (ended p a)) (left p a) (reached .stands lines p st))))
 
 -- from the start, the text is that of the lines of the input
 pub whole-text : {s : Stream} {input output : List ℕ} → Stands s 0 [] → Run s input output → Text 1 (linesOf input) output

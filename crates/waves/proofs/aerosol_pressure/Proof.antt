@@ -6,7 +6,7 @@ use Rattle.span.specs.declared.Span.{Span}
 use Rattle.span.specs.Spans.{Width, Product, Quotient, Summands, Sum}
 use Rattle.span.specs.Enclosing.{constant-encloses, product-encloses, quotient-encloses, sum-encloses, wider}
 use Rattle.guidance.specs.Waves.{thousandths, aerosolPressure}
-use Rattle.waves.specs.Ends.{product-upper, quotient-lower, sum-lower, exponent-most-of, constant-lower}
+use Rattle.waves.specs.EndBounds.{product-upper, quotient-lower, sum-lower, exponent-most-of, constant-lower}
 use Rattle.waves.specs.Coefficients.{aerosolFirst, aerosolSecond, aerosolThird, aerosol-first, aerosol-second, aerosol-third}
 use Rattle.waves.specs.Detonation.{Distance, AerosolPressure}
 use Rattle.waves.proofs.Distances.{Window, window, squares, cubes, divides, square-divides, cube-divides}
@@ -66,32 +66,6 @@ module _ {r square cube first second third : Span} (x : Distance 19 100 r) (p : 
 in-window : {r : Span} → Distance 19 100 r → Window r
 in-window x = window x (omega arith) (omega arith)
 
-mul-requires : tie.Need-mul-requires
-mul-requires c κs = squares (in-window (c .pre))
-
-mul-requires-2 : tie.Need-mul-requires-2
-mul-requires-2 c κs = cubes (in-window (c .before .pre)) (c .mul .ensures)
-
-quo-requires : tie.Need-quo-requires
-quo-requires c κs = divides (in-window (c .before .before .pre)) (omega arith) (omega arith) (omega arith)
-
-quo-requires-2 : tie.Need-quo-requires-2
-quo-requires-2 c κs = let m = c .before in square-divides (in-window (m .before .before .pre)) (m .before .mul .ensures) (omega arith) (omega arith) (omega arith)
-
-quo-requires-3 : tie.Need-quo-requires-3
-quo-requires-3 c κs = let m = c .before .before in cube-divides (in-window (m .before .before .pre)) (m .before .mul .ensures) (m .mul2 .ensures) (omega arith) (omega arith) (omega arith)
-
-add-requires : tie.Need-add-requires
-add-requires c κs =
-    let m = c .before .before .before in
-    two-add (m .before .before .pre) (m .before .mul .ensures) (m .mul2 .ensures) (c .before .before .quo .ensures) (c .before .quo2 .ensures) (c .quo3 .ensures)
-
-add-requires-2 : tie.Need-add-requires-2
-add-requires-2 c κs =
-    let t = c .before in
-    let m = t .before .before .before in
-    three-add (m .before .before .pre) (m .before .mul .ensures) (m .mul2 .ensures) (t .before .before .quo .ensures) (t .before .quo2 .ensures) (t .quo3 .ensures) (c .add .ensures)
-
 returns : tie.Need-returns
 returns c =
     let t = c .before .before in
@@ -104,11 +78,11 @@ pub aerosol-pressure-spec : {M : Type 1} → statement M
 aerosol-pressure-spec =
     tie.close
     (tie.spec
-    mul-requires
-    mul-requires-2
-    quo-requires
-    quo-requires-2
-    quo-requires-3
-    add-requires
-    add-requires-2
+    (λ c κs. squares (in-window (c .pre)))
+    (λ c κs. cubes (in-window (c .before .pre)) (c .mul .ensures))
+    (λ c κs. divides (in-window (c .before .before .pre)) (omega arith) (omega arith) (omega arith))
+    (λ c κs. let m = c .before in square-divides (in-window (m .before .before .pre)) (m .before .mul .ensures) (omega arith) (omega arith) (omega arith))
+    (λ c κs. let m = c .before .before in cube-divides (in-window (m .before .before .pre)) (m .before .mul .ensures) (m .mul2 .ensures) (omega arith) (omega arith) (omega arith))
+    (λ c κs. let m = c .before .before .before in two-add (m .before .before .pre) (m .before .mul .ensures) (m .mul2 .ensures) (c .before .before .quo .ensures) (c .before .quo2 .ensures) (c .quo3 .ensures))
+    (λ c κs. let t = c .before in let m = t .before .before .before in three-add (m .before .before .pre) (m .before .mul .ensures) (m .mul2 .ensures) (t .before .before .quo .ensures) (t .before .quo2 .ensures) (t .quo3 .ensures) (c .add .ensures))
     returns)

@@ -7,7 +7,7 @@ use Rattle.span.specs.declared.Span.{Span}
 use Rattle.span.specs.Spans.{Width, Product, Subtractable, Difference}
 use Rattle.span.specs.Enclosing.{constant-encloses, product-encloses, difference-encloses, wider}
 use Rattle.guidance.specs.Waves.{tenths, deflagrationImpulseAt}
-use Rattle.waves.specs.Ends.{normal-lower, constant-lower, constant-upper, product-lower, difference-lower, exponent-most-of, share-of}
+use Rattle.waves.specs.EndBounds.{normal-lower, constant-lower, constant-upper, product-lower, difference-lower, exponent-most-of, share-of}
 use Rattle.waves.specs.Coefficients.{one, fourTenths, one-is, four-tenths}
 use Rattle.waves.specs.Deflagration.{Deflagrating, FallingImpulse, DeflagrationImpulse}
 use Rattle.waves.proofs.Distances.{mach-exponent}

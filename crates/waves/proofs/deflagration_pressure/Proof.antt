@@ -5,7 +5,7 @@ use Rattle.span.specs.declared.Span.{Span}
 use Rattle.span.specs.Spans.{Width, Product}
 use Rattle.span.specs.Enclosing.{product-encloses, wider}
 use Rattle.guidance.specs.Waves.{deflagrationPressureAt}
-use Rattle.waves.specs.Ends.{normal-lower, product-lower, exponent-most-of}
+use Rattle.waves.specs.EndBounds.{normal-lower, product-lower, exponent-most-of}
 use Rattle.waves.specs.Deflagration.{Deflagrating, FallingPressure, DeflagrationPressure}
 use Rattle.waves.proofs.Distances.{mach-exponent}
 use Rattle.waves.proofs.deflagration_pressure.Statement.{statement}

@@ -1,4 +1,5 @@
 -- `waves::factor` meets its contract. Assumes nothing.
+use mathlib.Core.Bool.{cond}
 use Prim.Native.Nat.{ℕ, _≤_}
 use mathlib.Core.Path.{_≡_, sym, subst}
 use native.Mathlib.Omega.{arith}
@@ -8,9 +9,8 @@ use Rattle.exact.specs.Fraction.{whole, ofRatio}
 use Rattle.span.specs.declared.Span.{Span}
 use Rattle.span.specs.Spans.{Constant}
 use Rattle.span.specs.Enclosing.{Encloses, constant-encloses}
-use Rattle.guidance.specs.Choice.{pick}
 use Rattle.guidance.specs.Waves.{number}
-use Rattle.waves.specs.Ends.{constant-lower, lower-coarser}
+use Rattle.waves.specs.EndBounds.{constant-lower, lower-coarser}
 use Rattle.waves.specs.Coefficients.{factor-43, factor-26}
 use Rattle.waves.specs.Fronts.{Factor}
 use Rattle.waves.proofs.Choices.{picked, passed}
@@ -18,7 +18,7 @@ use Rattle.waves.proofs.factor.Statement.{statement}
 use Rattle.waves.proofs.factor.Tie as tie
 
 -- the whole number m, which is the one that the test picks
-factor-is : (range : ℕ) (m k : ℕ) {s : Span} → Constant (ofRatio (whole m)) k s → m ≡ pick (eqb range 5) 43 26 → 998 ≤ k → m ≤ 43 → Factor range s
+factor-is : (range : ℕ) (m k : ℕ) {s : Span} → Constant (ofRatio (whole m)) k s → m ≡ cond (eqb range 5) 43 26 → 998 ≤ k → m ≤ 43 → Factor range s
 unfolding whole
 factor-is range m k {s} c h l u =
     record {

@@ -8,7 +8,7 @@ use Rattle.span.specs.declared.Span.{Span}
 use Rattle.span.specs.Spans.{unit, Width, Product, Quotient, Summands, Sum, Subtractable, Difference}
 use Rattle.span.specs.Enclosing.{constant-encloses, product-encloses, quotient-encloses, sum-encloses, difference-encloses, wider, divisor}
 use Rattle.guidance.specs.Waves.{hundredths, tenThousandths, fallingImpulse}
-use Rattle.waves.specs.Ends.{lower-itself, upper-itself, lower-coarser, constant-lower, constant-upper, product-upper, quotient-lower, quotient-upper, sum-lower, sum-upper, difference-lower, exponent-most-of, share-of}
+use Rattle.waves.specs.EndBounds.{lower-itself, upper-itself, lower-coarser, constant-lower, constant-upper, product-upper, quotient-lower, quotient-upper, sum-lower, sum-upper, difference-lower, exponent-most-of, share-of}
 use Rattle.waves.specs.Coefficients.{pushFirst, pushSecond, pushThird, push-first, push-second, push-third}
 use Rattle.waves.specs.Detonation.{Distance}
 use Rattle.waves.specs.Deflagration.{FallingImpulse}
@@ -93,32 +93,6 @@ module _ {r square cube first second third : Span} (x : Distance 33 100 r) (p : 
 in-window : {r : Span} → Distance 33 100 r → Window r
 in-window x = window x (omega arith) (omega arith)
 
-mul-requires : tie.Need-mul-requires
-mul-requires c κs = squares (in-window (c .pre))
-
-mul-requires-2 : tie.Need-mul-requires-2
-mul-requires-2 c κs = cubes (in-window (c .before .pre)) (c .mul .ensures)
-
-quo-requires : tie.Need-quo-requires
-quo-requires c κs = divides (in-window (c .before .before .pre)) (omega arith) (omega arith) (omega arith)
-
-quo-requires-2 : tie.Need-quo-requires-2
-quo-requires-2 c κs = let m = c .before in square-divides (in-window (m .before .before .pre)) (m .before .mul .ensures) (omega arith) (omega arith) (omega arith)
-
-quo-requires-3 : tie.Need-quo-requires-3
-quo-requires-3 c κs = let m = c .before .before in cube-divides (in-window (m .before .before .pre)) (m .before .mul .ensures) (m .mul2 .ensures) (omega arith) (omega arith) (omega arith)
-
-add-requires : tie.Need-add-requires
-add-requires c κs =
-    let m = c .before .before .before in
-    adds (m .before .before .pre) (m .before .mul .ensures) (m .mul2 .ensures) (c .before .before .quo .ensures) (c .before .quo2 .ensures) (c .quo3 .ensures)
-
-sub-requires : tie.Need-sub-requires
-sub-requires c κs =
-    let t = c .before in
-    let m = t .before .before .before in
-    subtractable (m .before .before .pre) (m .before .mul .ensures) (m .mul2 .ensures) (t .before .before .quo .ensures) (t .before .quo2 .ensures) (t .quo3 .ensures) (c .add .ensures)
-
 returns : tie.Need-returns
 returns c =
     let t = c .before .before in
@@ -131,11 +105,11 @@ pub falling-impulse-spec : {M : Type 1} → statement M
 falling-impulse-spec =
     tie.close
     (tie.spec
-    mul-requires
-    mul-requires-2
-    quo-requires
-    quo-requires-2
-    quo-requires-3
-    add-requires
-    sub-requires
+    (λ c κs. squares (in-window (c .pre)))
+    (λ c κs. cubes (in-window (c .before .pre)) (c .mul .ensures))
+    (λ c κs. divides (in-window (c .before .before .pre)) (omega arith) (omega arith) (omega arith))
+    (λ c κs. let m = c .before in square-divides (in-window (m .before .before .pre)) (m .before .mul .ensures) (omega arith) (omega arith) (omega arith))
+    (λ c κs. let m = c .before .before in cube-divides (in-window (m .before .before .pre)) (m .before .mul .ensures) (m .mul2 .ensures) (omega arith) (omega arith) (omega arith))
+    (λ c κs. let m = c .before .before .before in adds (m .before .before .pre) (m .before .mul .ensures) (m .mul2 .ensures) (c .before .before .quo .ensures) (c .before .quo2 .ensures) (c .quo3 .ensures))
+    (λ c κs. let t = c .before in let m = t .before .before .before in subtractable (m .before .before .pre) (m .before .mul .ensures) (m .mul2 .ensures) (t .before .before .quo .ensures) (t .before .quo2 .ensures) (t .quo3 .ensures) (c .add .ensures))
     returns)

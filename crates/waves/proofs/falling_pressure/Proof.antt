@@ -8,7 +8,7 @@ use Rattle.span.specs.declared.Span.{Span}
 use Rattle.span.specs.Spans.{unit, Width, Product, Quotient, Subtractable, Difference}
 use Rattle.span.specs.Enclosing.{constant-encloses, product-encloses, quotient-encloses, difference-encloses, wider, divisor}
 use Rattle.guidance.specs.Waves.{hundredths, fallingPressure}
-use Rattle.waves.specs.Ends.{lower-itself, upper-itself, lower-coarser, constant-lower, constant-upper, product-upper, quotient-lower, quotient-upper, difference-lower, exponent-most-of, share-of}
+use Rattle.waves.specs.EndBounds.{lower-itself, upper-itself, lower-coarser, constant-lower, constant-upper, product-upper, quotient-lower, quotient-upper, difference-lower, exponent-most-of, share-of}
 use Rattle.waves.specs.Coefficients.{fallingFirst, fallingSecond, falling-first, falling-second}
 use Rattle.waves.specs.Detonation.{Distance}
 use Rattle.waves.specs.Deflagration.{FallingPressure}

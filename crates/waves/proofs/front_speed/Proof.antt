@@ -1,28 +1,28 @@
 -- `waves::front_speed` meets its contract. Assumes nothing.
+use mathlib.Core.Bool.{cond}
 use Prim.Native.Nat.{ℕ, _≤_}
 use mathlib.Core.Path.{_≡_, sym, subst, _∙_}
 use native.Mathlib.Omega.{arith}
 use lib.Dec.{eqb}
 use borrow.Author.Needs.{needs}
 use borrow.Author.Tests.{eq-eqb, ne-eqb}
-use Rattle.exact.specs.Fraction.{whole, ofRatio}
+use Rattle.exact.specs.Fraction.{whole}
 use Rattle.exact.specs.Formula.{Formula}
 use Rattle.span.specs.declared.Span.{Span}
-use Rattle.span.specs.Spans.{Constant}
+use Rattle.span.specs.Constants.{Between, coefficient}
 use Rattle.span.specs.Enclosing.{constant-encloses, wider}
-use Rattle.guidance.specs.Choice.{pick}
 use Rattle.guidance.specs.Waves.{number}
-use Rattle.waves.specs.Ends.{constant-lower, lower-coarser}
-use Rattle.waves.specs.Coefficients.{front-500, front-300, front-200}
+use Rattle.waves.specs.EndBounds.{constant-lower, lower-coarser}
 use Rattle.waves.specs.Fronts.{slowFront, frontSpeedOf, Front}
 use Rattle.waves.proofs.Choices.{picked, passed}
 use Rattle.waves.proofs.front_speed.Statement.{statement}
 use Rattle.waves.proofs.front_speed.Tie as tie
 
 -- a speed that is written out
-given : (m k : ℕ) {v : Span} → Constant (ofRatio (whole m)) k v → 995 ≤ k → m ≤ 501 → Front (number (whole m)) v
+given : (m k j : ℕ) {lo hi : ℕ} → Between (whole m) lo hi k j → 995 ≤ k → m ≤ 501 → Front (number (whole m)) (record { lo = lo; hi = hi; e = k })
 unfolding whole
-given m k c l u =
+given m k j b l u =
+    let c = coefficient (whole m) _ _ k j b in
     record {
       encloses = λ n h. constant-encloses c n;
       width = wider (omega arith) (c .width);
@@ -37,10 +37,10 @@ given m k c l u =
 
 module _ (range mass : ℕ) where
   from4 : Formula
-  from4 = pick (eqb range 4) (number (whole 200)) (slowFront range mass)
+  from4 = cond (eqb range 4) (number (whole 200)) (slowFront range mass)
 
   from3 : Formula
-  from3 = pick (eqb range 3) (number (whole 300)) from4
+  from3 = cond (eqb range 3) (number (whole 300)) from4
 
   range2 : range ≡ 2 → frontSpeedOf range mass ≡ number (whole 500)
   unfolding frontSpeedOf from3 from4
@@ -73,13 +73,16 @@ slow-front-requires : tie.Need-slow-front-requires
 slow-front-requires c κs = search needs
 
 returns : tie.Need-returns
-returns c = is (range2 _ _ (c .if1 .taken)) (given 500 1002 front-500 (omega arith) (omega arith))
+unfolding whole
+returns c = is (range2 _ _ (c .if1 .taken)) (given 500 1002 22 (omega arith) (omega arith) (omega arith))
 
 returns-2 : tie.Need-returns-2
-returns-2 c = is (range3 _ _ (c .before .if1 .left) (c .if2 .taken)) (given 300 1002 front-300 (omega arith) (omega arith))
+unfolding whole
+returns-2 c = is (range3 _ _ (c .before .if1 .left) (c .if2 .taken)) (given 300 1002 22 (omega arith) (omega arith) (omega arith))
 
 returns-3 : tie.Need-returns-3
-returns-3 c = is (range4 _ _ (c .before .before .if1 .left) (c .before .if2 .left) (c .if3 .taken)) (given 200 1001 front-200 (omega arith) (omega arith))
+unfolding whole
+returns-3 c = is (range4 _ _ (c .before .before .if1 .left) (c .before .if2 .left) (c .if3 .taken)) (given 200 1001 23 (omega arith) (omega arith) (omega arith))
 
 returns-4 : tie.Need-returns-4
 returns-4 c =

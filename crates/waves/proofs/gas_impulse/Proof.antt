@@ -1,5 +1,6 @@
 -- `waves::gas_impulse` meets its contract. The size of e^ comes from one point of ln R, its upper end: there ln Ix is at most 1.25.
 -- Assumes nothing.
+use mathlib.Core.Path.{_≡_, refl, ap}
 use Prim.Native.Nat.{ℕ, _+_, _*_, _^_}
 use native.Mathlib.Omega.{arith}
 use Rattle.span.specs.declared.Span.{Span}
@@ -20,8 +21,8 @@ use Rattle.waves.proofs.gas_impulse.Tie as tie
 start-small : Small impulseStart (4 * 2 ^ 30)
 start-small = record { lo-up = omega arith; lo-dn = omega arith; hi-up = omega arith; hi-dn = omega arith }
 
-starts : {l first : Log} → Logged l → Scaled 8980 10000 l first → Summands impulseStart first
-starts x f =
+starts : {l first : Log} {i : ℕ} → Logged l → Scaled i 10000 l first → i ≡ 8980 → Summands impulseStart first
+starts x f i =
     record {
       left = impulse-start .ordered;
       right = f .ordered;
@@ -29,8 +30,8 @@ starts x f =
       small-right = larger (omega arith) (f .small (5 * 2 ^ 30) (5 * 2 ^ 30) (x .small) (omega arith));
     }
 
-module _ {l first square second start : Log} (x : Logged l) (f : Scaled 8980 10000 l first) (p : LogProduct l l square)
-    (q : Scaled 96 10000 square second) (d : LogDifference impulseStart first start) where
+module _ {l first square second start : Log} {i j : ℕ} (x : Logged l) (f : Scaled i 10000 l first) (p : LogProduct l l square)
+    (q : Scaled j 10000 square second) (d : LogDifference impulseStart first start) (first-factor : i ≡ 8980) (second-factor : j ≡ 96) where
   first-small : Small first (5 * 2 ^ 30)
   first-small = f .small (5 * 2 ^ 30) (5 * 2 ^ 30) (x .small) (omega arith)
 
@@ -52,8 +53,8 @@ module _ {l first square second start : Log} (x : Logged l) (f : Scaled 8980 100
     y-width W w =
         wider (omega arith)
         (a .width _ _
-        (d .width _ _ (impulse-start .width) (f .width W W w (omega arith)))
-        (q .width _ (W + 1) (square-width x p W w) (omega arith)))
+        (d .width _ _ (impulse-start .width) (f .width W W w (omega (arith, ap (λ (k : ℕ). W * k) first-factor))))
+        (q .width _ (W + 1) (square-width x p W w) (omega (arith, ap (λ (k : ℕ). W * k) second-factor))))
 
     exponent : Exponent y
     exponent =
@@ -70,8 +71,8 @@ module _ {l first square second start : Log} (x : Logged l) (f : Scaled 8980 100
         let in-l = upper-point (x .ordered) in
         let at =
         a .holds _ _
-        (d .holds _ _ (impulse-start .holds) (f .holds _ _ (ratio-value (thousandths 898) 8980 10000 (omega arith)) in-l))
-        (q .holds _ _ (ratio-value (tenThousandths 96) 96 10000 (omega arith)) (p .holds _ _ in-l in-l)) in
+        (d .holds _ _ (impulse-start .holds) (f .holds _ _ (ratio-value (thousandths 898) i 10000 (omega arith)) in-l))
+        (q .holds _ _ (ratio-value (tenThousandths 96) j 10000 (omega arith)) (p .holds _ _ in-l in-l)) in
         let most = upper-most 5 4 (omega arith) at (impulse-most (l .hi) (x .small .hi-up) (x .small .hi-dn) _) (y-width _ (x .narrow)) in
         let least = upper-least y 9 1 (omega arith) at (impulse-least (l .hi) (x .small .hi-up) (x .small .hi-dn) _) in
         record {
@@ -79,51 +80,28 @@ module _ {l first square second start : Log} (x : Logged l) (f : Scaled 8980 100
           encloses = λ z n enough h.
               expo-encloses e enough
               (difference-encloses a
-              (difference-encloses d (constant-encloses impulse-start n) (scaled-encloses f (ratio-value (thousandths 898) 8980 10000 (omega arith)) h))
-              (scaled-encloses q (ratio-value (tenThousandths 96) 96 10000 (omega arith)) (product-encloses p h h)));
+              (difference-encloses d (constant-encloses impulse-start n) (scaled-encloses f (ratio-value (thousandths 898) i 10000 (omega arith)) h))
+              (scaled-encloses q (ratio-value (tenThousandths 96) j 10000 (omega arith)) (product-encloses p h h)));
           width = λ W w. spans.wider (omega arith) (e .width _ (y-width W w));
           least = omega (arith, e .least 13 (omega (arith, least)));
           most = omega (arith, e .most 2 (omega (arith, most)));
         }
 
-ten-thousandths-requires : tie.Need-ten-thousandths-requires
-ten-thousandths-requires c κs = scales (c .pre) 8980 (omega arith)
-
-product-requires : tie.Need-product-requires
-product-requires c κs = squares (c .before .pre)
-
-ten-thousandths-requires-2 : tie.Need-ten-thousandths-requires-2
-ten-thousandths-requires-2 c κs = square-scales (c .before .before .pre) (c .product .ensures) 96 (omega arith)
-
-sub-requires : tie.Need-sub-requires
-sub-requires c κs = let m = c .before in starts (m .before .before .pre) (m .before .ten-thousandths .ensures)
-
-sub-requires-2 : tie.Need-sub-requires-2
-sub-requires-2 c κs =
-    let m = c .before .before in
-    rest (m .before .before .pre) (m .before .ten-thousandths .ensures) (m .product .ensures) (c .before .ten-thousandths2 .ensures) (c .sub .ensures)
-
-expo-requires : tie.Need-expo-requires
-expo-requires c κs =
-    let t = c .before .before in
-    let m = t .before in
-    exponent (m .before .before .pre) (m .before .ten-thousandths .ensures) (m .product .ensures) (t .ten-thousandths2 .ensures) (c .before .sub .ensures) (c .sub2 .ensures)
-
 returns : tie.Need-returns
 returns c =
     let t = c .before .before .before in
     let m = t .before in
-    result (m .before .before .pre) (m .before .ten-thousandths .ensures) (m .product .ensures) (t .ten-thousandths2 .ensures) (c .before .before .sub .ensures)
+    result (m .before .before .pre) (m .before .ten-thousandths .ensures) (m .product .ensures) (t .ten-thousandths2 .ensures) (c .before .before .sub .ensures) refl refl
     (c .before .sub2 .ensures) (c .expo .ensures)
 
 pub gas-impulse-spec : {M : Type 1} → statement M
 gas-impulse-spec =
     tie.close
     (tie.spec
-    ten-thousandths-requires
-    product-requires
-    ten-thousandths-requires-2
-    sub-requires
-    sub-requires-2
-    expo-requires
+    (λ c κs. scales (c .pre) _ (omega arith))
+    (λ c κs. squares (c .before .pre))
+    (λ c κs. square-scales (c .before .before .pre) (c .product .ensures) _ (omega arith))
+    (λ c κs. let m = c .before in starts (m .before .before .pre) (m .before .ten-thousandths .ensures) refl)
+    (λ c κs. let m = c .before .before in rest (m .before .before .pre) (m .before .ten-thousandths .ensures) (m .product .ensures) (c .before .ten-thousandths2 .ensures) (c .sub .ensures) refl refl)
+    (λ c κs. let t = c .before .before in let m = t .before in exponent (m .before .before .pre) (m .before .ten-thousandths .ensures) (m .product .ensures) (t .ten-thousandths2 .ensures) (c .before .sub .ensures) refl refl (c .sub2 .ensures))
     returns)

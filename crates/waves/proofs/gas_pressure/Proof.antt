@@ -1,5 +1,6 @@
 -- `waves::gas_pressure` meets its contract. The size of e^ comes from one point of ln R, its upper end: there ln Px is at most 2.4.
 -- Assumes nothing.
+use mathlib.Core.Path.{_≡_, refl, ap}
 use Prim.Native.Nat.{ℕ, _+_, _*_, _^_}
 use native.Mathlib.Omega.{arith}
 use Rattle.span.specs.declared.Span.{Span}
@@ -20,8 +21,8 @@ use Rattle.waves.proofs.gas_pressure.Tie as tie
 start-small : Small pressureStart (2 * 2 ^ 30)
 start-small = record { lo-up = omega arith; lo-dn = omega arith; hi-up = omega arith; hi-dn = omega arith }
 
-starts : {l first : Log} → Near l → Scaled 16600 10000 l first → Summands pressureStart first
-starts x f =
+starts : {l first : Log} {i : ℕ} → Near l → Scaled i 10000 l first → i ≡ 16600 → Summands pressureStart first
+starts x f i =
     record {
       left = pressure-start .ordered;
       right = f .ordered;
@@ -29,8 +30,8 @@ starts x f =
       small-right = larger (omega arith) (f .small (5 * 2 ^ 30) (9 * 2 ^ 30) (x .logged .small) (omega arith));
     }
 
-module _ {l first square second start : Log} (x : Near l) (f : Scaled 16600 10000 l first) (p : LogProduct l l square)
-    (q : Scaled 2600 10000 square second) (d : LogDifference pressureStart first start) where
+module _ {l first square second start : Log} {i j : ℕ} (x : Near l) (f : Scaled i 10000 l first) (p : LogProduct l l square)
+    (q : Scaled j 10000 square second) (d : LogDifference pressureStart first start) (first-factor : i ≡ 16600) (second-factor : j ≡ 2600) where
   first-small : Small first (9 * 2 ^ 30)
   first-small = f .small (5 * 2 ^ 30) (9 * 2 ^ 30) (x .logged .small) (omega arith)
 
@@ -52,8 +53,8 @@ module _ {l first square second start : Log} (x : Near l) (f : Scaled 16600 1000
     y-width W w =
         wider (omega arith)
         (a .width _ _
-        (d .width _ _ (pressure-start .width) (f .width W (2 * W) w (omega arith)))
-        (q .width _ (3 * W + 22) (square-width (x .logged) p W w) (omega arith)))
+        (d .width _ _ (pressure-start .width) (f .width W (2 * W) w (omega (arith, ap (λ (k : ℕ). W * k) first-factor))))
+        (q .width _ (3 * W + 22) (square-width (x .logged) p W w) (omega (arith, ap (λ (k : ℕ). W * k) second-factor))))
 
     exponent : Exponent y
     exponent =
@@ -70,8 +71,8 @@ module _ {l first square second start : Log} (x : Near l) (f : Scaled 16600 1000
         let in-l = upper-point (x .logged .ordered) in
         let at =
         a .holds _ _
-        (d .holds _ _ (pressure-start .holds) (f .holds _ _ (ratio-value (hundredths 166) 16600 10000 (omega arith)) in-l))
-        (q .holds _ _ (ratio-value (hundredths 26) 2600 10000 (omega arith)) (p .holds _ _ in-l in-l)) in
+        (d .holds _ _ (pressure-start .holds) (f .holds _ _ (ratio-value (hundredths 166) i 10000 (omega arith)) in-l))
+        (q .holds _ _ (ratio-value (hundredths 26) j 10000 (omega arith)) (p .holds _ _ in-l in-l)) in
         let most = upper-most 12 5 (omega arith) at (pressure-most (l .hi) (x .logged .small .hi-up) (omega (arith, x .near)) _) (y-width _ (x .logged .narrow)) in
         let least = upper-least y 10 1 (omega arith) at (pressure-least (l .hi) (x .logged .small .hi-up) _) in
         record {
@@ -79,51 +80,28 @@ module _ {l first square second start : Log} (x : Near l) (f : Scaled 16600 1000
           encloses = λ z n enough h.
               expo-encloses e enough
               (sum-encloses a
-              (difference-encloses d (constant-encloses pressure-start n) (scaled-encloses f (ratio-value (hundredths 166) 16600 10000 (omega arith)) h))
-              (scaled-encloses q (ratio-value (hundredths 26) 2600 10000 (omega arith)) (product-encloses p h h)));
+              (difference-encloses d (constant-encloses pressure-start n) (scaled-encloses f (ratio-value (hundredths 166) i 10000 (omega arith)) h))
+              (scaled-encloses q (ratio-value (hundredths 26) j 10000 (omega arith)) (product-encloses p h h)));
           width = λ W w. spans.wider (omega arith) (e .width _ (y-width W w));
           least = omega (arith, e .least 15 (omega (arith, least)));
           most = omega (arith, e .most 4 (omega (arith, most)));
         }
 
-ten-thousandths-requires : tie.Need-ten-thousandths-requires
-ten-thousandths-requires c κs = scales (c .pre .logged) 16600 (omega arith)
-
-product-requires : tie.Need-product-requires
-product-requires c κs = squares (c .before .pre .logged)
-
-ten-thousandths-requires-2 : tie.Need-ten-thousandths-requires-2
-ten-thousandths-requires-2 c κs = square-scales (c .before .before .pre .logged) (c .product .ensures) 2600 (omega arith)
-
-sub-requires : tie.Need-sub-requires
-sub-requires c κs = let m = c .before in starts (m .before .before .pre) (m .before .ten-thousandths .ensures)
-
-add-requires : tie.Need-add-requires
-add-requires c κs =
-    let m = c .before .before in
-    adds (m .before .before .pre) (m .before .ten-thousandths .ensures) (m .product .ensures) (c .before .ten-thousandths2 .ensures) (c .sub .ensures)
-
-expo-requires : tie.Need-expo-requires
-expo-requires c κs =
-    let t = c .before .before in
-    let m = t .before in
-    exponent (m .before .before .pre) (m .before .ten-thousandths .ensures) (m .product .ensures) (t .ten-thousandths2 .ensures) (c .before .sub .ensures) (c .add .ensures)
-
 returns : tie.Need-returns
 returns c =
     let t = c .before .before .before in
     let m = t .before in
-    result (m .before .before .pre) (m .before .ten-thousandths .ensures) (m .product .ensures) (t .ten-thousandths2 .ensures) (c .before .before .sub .ensures)
+    result (m .before .before .pre) (m .before .ten-thousandths .ensures) (m .product .ensures) (t .ten-thousandths2 .ensures) (c .before .before .sub .ensures) refl refl
     (c .before .add .ensures) (c .expo .ensures)
 
 pub gas-pressure-spec : {M : Type 1} → statement M
 gas-pressure-spec =
     tie.close
     (tie.spec
-    ten-thousandths-requires
-    product-requires
-    ten-thousandths-requires-2
-    sub-requires
-    add-requires
-    expo-requires
+    (λ c κs. scales (c .pre .logged) _ (omega arith))
+    (λ c κs. squares (c .before .pre .logged))
+    (λ c κs. square-scales (c .before .before .pre .logged) (c .product .ensures) _ (omega arith))
+    (λ c κs. let m = c .before in starts (m .before .before .pre) (m .before .ten-thousandths .ensures) refl)
+    (λ c κs. let m = c .before .before in adds (m .before .before .pre) (m .before .ten-thousandths .ensures) (m .product .ensures) (c .before .ten-thousandths2 .ensures) (c .sub .ensures) refl refl)
+    (λ c κs. let t = c .before .before in let m = t .before in exponent (m .before .before .pre) (m .before .ten-thousandths .ensures) (m .product .ensures) (t .ten-thousandths2 .ensures) (c .before .sub .ensures) refl refl (c .add .ensures))
     returns)

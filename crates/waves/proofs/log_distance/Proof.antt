@@ -9,7 +9,7 @@ use lib.IntN.{ℤ, pos, negsuc}
 use lib.Pow.{pow-pos}
 use Rattle.exact.specs.Fraction.{_≼_, Above0, whole, _⊕_, _⊗_, _⊖_, recip, power, sum, Frac, _⊑_, Positive, ofRatio, oneF, magnitude, neg}
 use Rattle.exact.specs.Series.{oneOver, even, lnTerm, gap, lnTail, seriesUpper, climb, exponent, argument, third}
-use Rattle.exact.specs.Ends.{ln2Upper, lnUpper}
+use Rattle.exact.specs.LnExp.{ln2Upper, lnUpper}
 use Rattle.exact.specs.laws.Frac.{⊑-trans, neg-anti}
 use Rattle.exact.specs.laws.EndsMeet.{ofRatio-mono, ln-below}
 use Rattle.exact.specs.laws.Divisors.{magnitude-above, one-recip}
@@ -25,7 +25,7 @@ use Rattle.fixed.specs.Enclosing as logs
 use Rattle.enclosure.specs.Promises.{enough, Loggable, Logarithm}
 use Rattle.enclosure.specs.Enclosing.{logarithm-encloses, logarithm-small}
 use Rattle.guidance.specs.Waves.{hundredths}
-use Rattle.waves.specs.Ends.{UpperAtLeast}
+use Rattle.waves.specs.EndBounds.{UpperAtLeast}
 use Rattle.waves.specs.Detonation.{Distance}
 use Rattle.waves.specs.Gas.{Logged, LogDistance}
 use Rattle.waves.proofs.Distances.{window}

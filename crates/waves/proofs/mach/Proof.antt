@@ -4,7 +4,7 @@ use Rattle.exact.specs.Fraction.{whole}
 use Rattle.span.specs.declared.Span.{Span}
 use Rattle.span.specs.Spans.{Divisible, Quotient}
 use Rattle.span.specs.Enclosing.{constant-encloses, quotient-encloses, wider}
-use Rattle.waves.specs.Ends.{lower-coarser, constant-upper, quotient-lower, exponent-most-of}
+use Rattle.waves.specs.EndBounds.{lower-coarser, constant-upper, quotient-lower, exponent-most-of}
 use Rattle.waves.specs.Coefficients.{soundSpeed, sound-speed}
 use Rattle.waves.specs.Deflagration.{Speed, Mach}
 use Rattle.waves.proofs.mach.Statement.{statement}

@@ -5,7 +5,7 @@ use borrow.Author.Needs.{needs}
 use Rattle.span.specs.declared.Span.{Span}
 use Rattle.span.specs.Spans.{Factors, Product}
 use Rattle.span.specs.Enclosing.{product-encloses, wider}
-use Rattle.waves.specs.Ends.{lower-coarser, product-lower, exponent-most-of}
+use Rattle.waves.specs.EndBounds.{lower-coarser, product-lower, exponent-most-of}
 use Rattle.waves.specs.Fronts.{slowFront, SixthRoot, Factor, Front}
 use Rattle.waves.proofs.slow_front.Statement.{statement}
 use Rattle.waves.proofs.slow_front.Tie as tie

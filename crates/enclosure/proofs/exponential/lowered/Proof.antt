@@ -14,7 +14,7 @@ quarter : (l d : ℕ) → d ≤ 2 ^ 28 → l * d ≤ l * 2 ^ 28
 quarter l d h = let s : l ≤ l = omega arith in mul-le-mul s h
 
 -- q is the share that is taken, rounded downward
-less : (x : Span) (d q l : ℕ) → Normal x → q * 2 ^ 30 ≤ x .lo * d → x .lo * d < q * 2 ^ 30 + 2 ^ 30 → l + (q + 2) ≡ x .lo → Lowered x d (record { lo = l; hi = x .hi; e = x .e })
+less : (x : Span) (d q l : ℕ) → Normal x → q * 2 ^ 30 ≤ x .lo * d → x .lo * d < q * 2 ^ 30 + 2 ^ 30 → l + (q + 1) ≡ x .lo → Lowered x d (record { lo = l; hi = x .hi; e = x .e })
 less x d q l n low high e = record { hi = refl; e = refl; below = omega arith; near = omega arith }
 
 mul-q : tie.Need-mul-q

@@ -4,7 +4,7 @@ use Prim.Native.Nat.{suc, _*_, _^_, _<_}
 use native.Mathlib.Omega.{arith}
 use lib.IntN.{ℤ, pos, negsuc, _-ℤ_}
 use Rattle.signed.specs.Reading.{R, step, Read, as-pos, as-neg}
-use Rattle.enclosure.proofs.Signed.{opposite}
+use Rattle.enclosure.proofs.Differences.{opposite}
 use Rattle.enclosure.proofs.ExpSigns.{at-positive}
 use Rattle.enclosure.proofs.exponential.point.Statement.{statement}
 use Rattle.enclosure.proofs.exponential.point.Tie as tie

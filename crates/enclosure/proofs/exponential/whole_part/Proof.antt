@@ -2,7 +2,8 @@
 use mathlib.Core.Path.{refl}
 use native.Mathlib.Omega.{arith}
 use borrow.Author.Needs.{needs}
-use Rattle.enclosure.proofs.ExpProducts.{product-in, whole-digits}
+use Rattle.enclosure.proofs.Entries.{sixteen-in, one-in}
+use Rattle.enclosure.proofs.ExpProducts.{factors, product-in, whole-digits}
 use Rattle.enclosure.proofs.exponential.whole_part.Statement.{statement}
 use Rattle.enclosure.proofs.exponential.whole_part.Tie as tie
 
@@ -13,11 +14,11 @@ ones-requires : tie.Need-ones-requires
 ones-requires c κs = search needs
 
 mul-requires : tie.Need-mul-requires
-mul-requires c κs = search needs
+mul-requires c κs = factors (sixteen-in (c .before .sixteens .ensures) (omega arith)) (one-in (c .ones .ensures) (omega arith)) (omega arith)
 
 returns : tie.Need-returns
 returns c =
-    product-in 10900 4 1732 (c .mul .ensures) (c .before .before .sixteens .ensures) (c .before .ones .ensures)
+    product-in 10900 4 1732 (c .mul .ensures) (sixteen-in (c .before .before .sixteens .ensures) (omega arith)) (one-in (c .before .ones .ensures) (omega arith))
     (whole-digits _ _ _ (omega arith)) (omega arith) refl (omega arith)
 
 pub whole-part-spec : {M : Type 1} → statement M

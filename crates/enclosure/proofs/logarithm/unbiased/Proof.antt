@@ -9,7 +9,7 @@ use mir.Val.{toZ}
 use mir.ValLaws.{toZ-pos}
 use borrow.Author.Needs.{needs}
 use Rattle.enclosure.specs.LogSteps.{Unbiased}
-use Rattle.fixed.specs.Parts.{minus-parts}
+use Rattle.fixed.specs.SignedLaws.{minus-parts}
 use Rattle.signed.specs.Reading.{step}
 use Rattle.enclosure.proofs.LnInterval.{unbiased-fits}
 use Rattle.enclosure.proofs.logarithm.unbiased.Statement.{statement}

@@ -14,8 +14,8 @@ slice-aggregate-from-line c = sym (length-take-le _ _ (c .before .before .before
 from-line-requires : tie.Need-from-line-requires
 from-line-requires c κs = search needs
 
-number-requires : tie.Need-number-requires
-number-requires c κs = search needs
+code-of-requires : tie.Need-code-of-requires
+code-of-requires c κs = search needs
 
 same-length : tie.Need-same-length
 same-length c = search needs
@@ -30,6 +30,6 @@ answer-to-spec =
     slice-relend-prefix-from-line
     slice-aggregate-from-line
     from-line-requires
-    number-requires
+    code-of-requires
     same-length
     returns)

@@ -14,8 +14,8 @@ slice-aggregate-from-frame c = sym (length-take-le _ _ (c .before .before .befor
 from-frame-requires : tie.Need-from-frame-requires
 from-frame-requires c κs = search needs
 
-number-requires : tie.Need-number-requires
-number-requires c κs = search needs
+code-of-requires : tie.Need-code-of-requires
+code-of-requires c κs = search needs
 
 same-length : tie.Need-same-length
 same-length c = search needs
@@ -30,6 +30,6 @@ answer-to-frame-spec =
     slice-relend-prefix-from-frame
     slice-aggregate-from-frame
     from-frame-requires
-    number-requires
+    code-of-requires
     same-length
     returns)

@@ -49,9 +49,11 @@ same-length c = simp length-set (c .before .before .loop .inv .same)
 
 returns : tie.Need-returns Inv-loop μ-loop
 returns c =
+    let counted = c .before .before .before in
+    let start = counted .before .before in
     record {
-      size = c .before .before .before .places .ensures;
-      short = decimal-most (c .before .before .before .before .before .args .n) (c .before .before .before .before .before .fits .n .fits) (c .before .before .before .places .ensures);
+      size = counted .places .ensures;
+      short = decimal-most (start .args .n) (start .fits .n .fits) (counted .places .ensures);
       bytes = spell-last (c .before .before .loop .inv) (c .before .loop-test .left) (c .digit2 .ensures);
     }
 

@@ -5,7 +5,7 @@ use native.Mathlib.Omega.{arith}
 use lib.ListN.{length, set, length-set}
 use borrow.Rule.Slice.PartMut.{putMid, same-len-mid}
 use borrow.Author.Needs.{needs}
-use Rattle.text.proofs.Behind.{room-from}
+use Rattle.text.specs.laws.Tails.{room-from}
 use Rattle.text.proofs.Pieces.{printed}
 use Rattle.text.proofs.records.put_record.Statement.{statement}
 use Rattle.text.proofs.records.put_record.Tie as tie
@@ -21,8 +21,8 @@ put-decimal-requires c κs = search needs
 
 slice-write-out : tie.Need-slice-write-out
 slice-write-out c =
-    let d = c .before .before .put-decimal in
-    omega (arith, d .kept .1 .0, d .ensures .short, c .before .before .before .before .before .before .before .before .before .pre)
+    let put = c .before .before in
+    omega (arith, put .put-decimal .kept .1 .0, put .put-decimal .ensures .short, put .before .before .before .before .before .before .before .pre)
 
 add-at : tie.Need-add-at
 add-at c = omega (arith, c .before .before .put-decimal .ensures .short)
@@ -32,47 +32,59 @@ slice-aggregate-put-said c = search needs
 
 sub-put-said : tie.Need-sub-put-said
 sub-put-said c =
-    let d = c .before .before .before .put-decimal in
-    simp length-set (omega (arith, d .kept .1 .0, d .ensures .short, c .before .before .before .before .before .before .before .before .before .before .pre))
+    let put = c .before .before .before in
+    simp length-set
+    (omega (arith, put .put-decimal .kept .1 .0, put .put-decimal .ensures .short, put .before .before .before .before .before .before .before .pre))
 
 part-put-said-start : tie.Need-part-put-said-start
 part-put-said-start c =
-    let d = c .before .before .before .put-decimal in
-    simp length-set (omega (arith, d .kept .1 .0, d .ensures .short, c .before .before .before .before .before .before .before .before .before .before .pre))
+    let put = c .before .before .before in
+    simp length-set
+    (omega (arith, put .put-decimal .kept .1 .0, put .put-decimal .ensures .short, put .before .before .before .before .before .before .before .pre))
 
 part-put-said-end : tie.Need-part-put-said-end
 part-put-said-end c = search needs
 
 put-said-requires : tie.Need-put-said-requires
 put-said-requires c κs =
-    let d = c .before .before .before .before .put-decimal in
+    let put = c .before .before .before .before in
+    let d = put .put-decimal in
+    let judged = put .before .before .before in
     let spaced = set (d .last .1 .0) (d .result) 32 in
     record {
-      frame = c .before .before .before .before .before .before .before .from-line .kept .1 .0;
+      frame = judged .from-line .kept .1 .0;
       room =
           room-from (d .result + 1) spaced 155
-          (omega (arith, length-set (d .last .1 .0) (d .result) 32, d .kept .1 .0, d .ensures .short, c .before .before .before .before .before .before .before .before .before .before .before .pre));
+          (omega (arith, length-set (d .last .1 .0) (d .result) 32, d .kept .1 .0, d .ensures .short, judged .before .before .before .before .pre));
     }
 
 add-end : tie.Need-add-end
-add-end c = omega (arith, c .before .before .before .before .before .before .before .put-decimal .ensures .short, c .before .before .put-said .ensures .short)
+add-end c =
+    let told = c .before .before in
+    omega (arith, told .before .before .before .before .before .put-decimal .ensures .short, told .put-said .ensures .short)
 
 slice-write-out-2 : tie.Need-slice-write-out-2
 slice-write-out-2 c =
-    let d = c .before .before .before .before .before .before .before .put-decimal in
-    let said = c .before .before .put-said in
+    let told = c .before .before in
+    let put = told .before .before .before .before .before in
+    let d = put .put-decimal in
+    let said = told .put-said in
     let spaced = set (d .last .1 .0) (d .result) 32 in
     let long = same-len-mid (d .result + 1) (length spaced - (d .result + 1)) spaced (said .last .1 .1 .0) (said .kept .1 .1 .0) in
     let same = length-set (d .last .1 .0) (d .result) 32 in
-    omega (arith, long, same, d .kept .1 .0, d .ensures .short, said .ensures .short, c .before .before .before .before .before .before .before .before .before .before .before .before .before .before .pre)
+    let room = put .before .before .before .before .before .before .before .pre in
+    omega (arith, long, same, d .kept .1 .0, d .ensures .short, said .ensures .short, room)
 
 add-result : tie.Need-add-result
-add-result c = omega (arith, c .before .before .before .before .before .before .before .put-decimal .ensures .short, c .before .before .put-said .ensures .short)
+add-result c =
+    let told = c .before .before in
+    omega (arith, told .before .before .before .before .before .put-decimal .ensures .short, told .put-said .ensures .short)
 
 same-length : tie.Need-same-length
 same-length c =
-    let d = c .before .before .before .before .before .before .before .put-decimal in
-    let said = c .before .before .put-said in
+    let told = c .before .before in
+    let d = told .before .before .before .before .before .put-decimal in
+    let said = told .put-said in
     let spaced = set (d .last .1 .0) (d .result) 32 in
     let long = same-len-mid (d .result + 1) (length spaced - (d .result + 1)) spaced (said .last .1 .1 .0) (said .kept .1 .1 .0) in
     let same = length-set (d .last .1 .0) (d .result) 32 in
@@ -83,8 +95,11 @@ same-length c =
 
 returns : tie.Need-returns
 returns c =
-    let start = c .before .before .before .before .before .before .before .before .before .before .before .before .before .before in
-    printed (start .pre) refl (c .before .before .before .before .before .before .before .before .before .before .from-line .ensures) (c .before .before .before .before .before .before .before .put-decimal .ensures) (c .before .before .put-said .ensures)
+    let told = c .before .before in
+    let put = told .before .before .before .before .before in
+    let judged = put .before .before .before in
+    let start = judged .before .before .before .before in
+    printed (start .pre) refl (judged .from-line .ensures) (put .put-decimal .ensures) (told .put-said .ensures)
 
 pub put-record-spec : {M : Type 1} → statement M
 put-record-spec =

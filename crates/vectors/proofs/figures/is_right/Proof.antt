@@ -1,7 +1,6 @@
 -- `vectors::figures::is_right` meets its contract: a wave or a probit, by the words at its place. Assumes nothing.
-use borrow.Author.Tests.{lt-ltb, le-ltb}
+use Rattle.vectors.proofs.Compound.{right-wave, right-probit}
 use borrow.Author.Needs.{needs}
-use Rattle.vectors.specs.Figures.{right}
 use Rattle.vectors.proofs.figures.is_right.Statement.{statement}
 use Rattle.vectors.proofs.figures.is_right.Tie as tie
 
@@ -27,8 +26,9 @@ is-wave-requires : tie.Need-is-wave-requires
 is-wave-requires c κs = search needs
 
 returns : tie.Need-returns
-unfolding right
-returns c = simp (lt-ltb (c .before .before .before .before .args .i) 2 (c .before .if1 .taken)) (cc)
+returns c =
+    let b = c .before in
+    right-wave _ _ _ _ _ (b .before .before .four .ensures .0) (b .before .four2 .ensures .0) (b .if1 .taken) (c .is-wave .ensures)
 
 mul-two : tie.Need-mul-two
 mul-two c = search needs
@@ -54,8 +54,8 @@ raised-word-requires c κs = search needs
 raised-word-requires-2 : tie.Need-raised-word-requires-2
 raised-word-requires-2 c κs = search needs
 
-raised-value-requires : tie.Need-raised-value-requires
-raised-value-requires c κs = search needs
+raised-requires : tie.Need-raised-requires
+raised-requires c κs = search needs
 
 is-probit-requires : tie.Need-is-probit-requires
 is-probit-requires c κs = search needs
@@ -67,10 +67,18 @@ both-requires : tie.Need-both-requires
 both-requires c κs = search needs
 
 returns-2 : tie.Need-returns-2
-unfolding right
 returns-2 c =
-    let k = c .before .before .before .before .before .before .before .before in
-    simp (le-ltb (k .before .before .before .args .i) 2 (k .if1 .left)) (cc)
+    let d = c .before in
+    let v = d .before .before in
+    let m = v .before in
+    let l = m .before in
+    let s = l .before in
+    let e = s .before .before in
+    right-probit _ _ _ _ _
+    (e .before .before .four .ensures .0) (e .before .four2 .ensures .0) (e .if1 .left)
+    (s .before .two .ensures .0) (s .two2 .ensures .0) (l .raised-word .ensures .0)
+    (m .raised-word2 .ensures .0) (v .raised .ensures) (d .before .is-probit .ensures)
+    (d .is-damage .ensures) (c .both .ensures)
 
 pub is-right-spec : {M : Type 1} → statement M
 is-right-spec =
@@ -92,7 +100,7 @@ is-right-spec =
     two-requires-2
     raised-word-requires
     raised-word-requires-2
-    raised-value-requires
+    raised-requires
     is-probit-requires
     is-damage-requires
     both-requires

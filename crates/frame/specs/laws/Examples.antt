@@ -1,0 +1,80 @@
+-- Lines and their verdicts, by computation: document 01's three lines, the propane line in either letter case, and two faults at once. Assumes nothing.
+use Prim.Native.Nat.{ℕ}
+use mathlib.Core.Path.{_≡_, refl}
+use mathlib.Core.List.{List, [], _∷_}
+use native.Mathlib.Decide.{decLe}
+use lib.ListN.{replicate}
+use Rattle.exact.specs.Fraction.{whole, _⊗_, power}
+use Rattle.guidance.specs.declared.Case.{Case}
+use Rattle.guidance.specs.Substances.{betas, betaOf, classOf, heatOf}
+use Rattle.guidance.specs.Clouds.{atLeast1, rangeOf, groundFactor, leanBy, leanFactor, aerosolFactor, energy}
+use Rattle.guidance.specs.Distances.{less, metres, cubed, farther, cube24}
+use Rattle.frame.specs.declared.Refusal.the-variants.{Length, Digit, Setting, Heat}
+use Rattle.frame.specs.declared.Verdict.the-variants.{Accepted, Refused}
+use Rattle.frame.specs.Bytes.{fieldsOf}
+use Rattle.frame.specs.Digits.{digitOf, allDigits, bytesOf}
+use Rattle.frame.specs.Verdicts.{settingOutside, quantityOutside, heatMissing, tests, firstOf, frameVerdict, lineVerdict}
+
+-- 00000001000000640001000100000000000000640046
+abbrev pub thirdLine : List ℕ
+thirdLine =
+    48 ∷ 48 ∷ 48 ∷ 48 ∷ 48 ∷ 48 ∷ 48 ∷ 49 ∷ 48 ∷ 48 ∷ 48
+    ∷ 48 ∷ 48 ∷ 48 ∷ 54 ∷ 52 ∷ 48 ∷ 48 ∷ 48 ∷ 49 ∷ 48 ∷ 48
+    ∷ 48 ∷ 49 ∷ 48 ∷ 48 ∷ 48 ∷ 48 ∷ 48 ∷ 48 ∷ 48 ∷ 48 ∷ 48
+    ∷ 48 ∷ 48 ∷ 48 ∷ 48 ∷ 48 ∷ 54 ∷ 52 ∷ 48 ∷ 48 ∷ 52 ∷ 54 ∷ []
+
+-- 11000104007A1200057803020000B540000027100046
+abbrev pub propaneLine : List ℕ
+propaneLine =
+    49 ∷ 49 ∷ 48 ∷ 48 ∷ 48 ∷ 49 ∷ 48 ∷ 52 ∷ 48 ∷ 48 ∷ 55
+    ∷ 65 ∷ 49 ∷ 50 ∷ 48 ∷ 48 ∷ 48 ∷ 53 ∷ 55 ∷ 56 ∷ 48 ∷ 51
+    ∷ 48 ∷ 50 ∷ 48 ∷ 48 ∷ 48 ∷ 48 ∷ 66 ∷ 53 ∷ 52 ∷ 48 ∷ 48
+    ∷ 48 ∷ 48 ∷ 48 ∷ 50 ∷ 55 ∷ 49 ∷ 48 ∷ 48 ∷ 48 ∷ 52 ∷ 54 ∷ []
+
+-- the same in small letters
+abbrev pub propaneSmall : List ℕ
+propaneSmall =
+    49 ∷ 49 ∷ 48 ∷ 48 ∷ 48 ∷ 49 ∷ 48 ∷ 52 ∷ 48 ∷ 48 ∷ 55
+    ∷ 97 ∷ 49 ∷ 50 ∷ 48 ∷ 48 ∷ 48 ∷ 53 ∷ 55 ∷ 56 ∷ 48 ∷ 51
+    ∷ 48 ∷ 50 ∷ 48 ∷ 48 ∷ 48 ∷ 48 ∷ 98 ∷ 53 ∷ 52 ∷ 48 ∷ 48
+    ∷ 48 ∷ 48 ∷ 48 ∷ 50 ∷ 55 ∷ 49 ∷ 48 ∷ 48 ∷ 48 ∷ 52 ∷ 54 ∷ []
+
+-- its fields
+abbrev pub propane : Case
+propane =
+    record {
+      substance = 17;
+      state = 0;
+      placement = 1;
+      surroundings = 4;
+      mass = 8000000;
+      mean = 1400;
+      stoichiometric = 770;
+      heat = 46400;
+      distance = 10000;
+      body = 70;
+    }
+
+-- surroundings 5, and besides a distance of 0
+abbrev pub twoFaults : List ℕ
+twoFaults = 0 ∷ 0 ∷ 0 ∷ 5 ∷ 0 ∷ 0 ∷ 0 ∷ 100 ∷ 0 ∷ 1 ∷ 0 ∷ 1 ∷ 0 ∷ 0 ∷ 3 ∷ 245 ∷ 0 ∷ 0 ∷ 0 ∷ 0 ∷ 0 ∷ 70 ∷ []
+
+pub record Examples : Type 0 where
+  pub empty-line : lineVerdict [] 77 ≡ Refused Length
+  pub letters-G : lineVerdict (replicate 44 71) 77 ≡ Refused Digit
+  pub third-line : lineVerdict thirdLine 77 ≡ Refused Heat
+  pub propane-line : lineVerdict propaneLine 77 ≡ Accepted propane
+  pub propane-small : lineVerdict propaneSmall 77 ≡ Accepted propane
+  pub setting-first : frameVerdict twoFaults 77 ≡ Refused Setting
+
+pub examples : Examples
+unfolding frameVerdict lineVerdict firstOf tests settingOutside quantityOutside heatMissing fieldsOf digitOf allDigits bytesOf farther less cubed metres cube24 power whole _⊗_ energy groundFactor leanFactor leanBy decLe aerosolFactor heatOf betas betaOf rangeOf classOf atLeast1
+examples =
+    record {
+      empty-line = refl;
+      letters-G = refl;
+      third-line = refl;
+      propane-line = refl;
+      propane-small = refl;
+      setting-first = refl;
+    }

@@ -1,6 +1,0 @@
--- A choice between two things by a test.
-use mathlib.Core.Bool.{Bool, true, false}
-
-abbrev pub pick : {A : Type 0} → Bool → A → A → A
-pick true a b = a
-pick false a b = b

@@ -1,0 +1,2 @@
+-- Laws about the writers of bytes.
+pub mod Storing
