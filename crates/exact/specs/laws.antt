@@ -1,4 +1,5 @@
 -- The laws: nothing here need be believed.
+pub mod Tests
 pub mod Positive
 pub mod Tables
 pub mod Decide

@@ -11,16 +11,13 @@ use mir.Syntax.{w64}
 use mir.Val.{SFits}
 use borrow.Author.Tests.{le-leb, le-ltb}
 use Rattle.fixed.specs.FloorAndCeiling.{floorZ}
-use Rattle.signed.specs.Reading.{R, back}
+use Rattle.signed.specs.Reading.{R, back, never}
 
 fits : {e v : ℤ} → e ≡ v → mag v < 2 ^ 63 → SFits w64 e
 fits p h = rw p (record { sfits = h })
 
 read : {e v : ℤ} → e ≡ v → mag v < 2 ^ 63 → R e ≡ v
 read {v = v} p h = ap R p ∙ back v h
-
-never : false ≡ true → ⊥
-never h = let z : _≡_ {A = ℕ} 0 1 = cc in omega arith
 
 complement-neg : (a : ℕ) → negsuc 0 -ℤ negsuc a ≡ pos a
 complement-neg a = ap (λ (t : Bool). cond t (negsuc (1 - suc (suc a))) (pos (suc a - 1))) (le-ltb (suc a) 1 (omega arith)) ∙ ap pos (omega arith)

@@ -22,7 +22,8 @@ back z h = toZ-ofZ w64 z (record { sfits = h })
 pub step : {e v : ℤ} → e ≡ v → mag v < 2 ^ 63 → R e ≡ v
 step {v = v} p h = ap R p ∙ back v h
 
-never : false ≡ true → ⊥
+-- a test does not fail and hold
+pub never : false ≡ true → ⊥
 never h = let z : _≡_ {A = ℕ} 0 1 = cc in omega arith
 
 is-pos : (z : ℤ) → leZ (pos 0) z ≡ true → (a : ℕ) × (z ≡ pos a)

@@ -6,7 +6,6 @@ pub mod Tails
 pub mod Writers
 pub mod Texts
 pub mod Caps
-pub mod Refusals
 pub mod Reaching
 pub mod Runs
 pub mod Examples

@@ -1,7 +1,7 @@
 -- What a test picks. Assumes nothing.
 use mathlib.Core.Path.{_≡_, refl}
 use mathlib.Core.Bool.{Bool, true, false, cond}
-use Rattle.exact.specs.laws.Containment.{false-true}
+use Rattle.exact.specs.laws.Tests.{false-true}
 
 pub picked : {A : Type 0} (b : Bool) (x y : A) → b ≡ true → cond b x y ≡ x
 picked true x y h = refl

@@ -20,10 +20,8 @@ use Rattle.exact.specs.laws.Ln.{ln-lower-mono, ln-upper-mono}
 use Rattle.exact.specs.laws.Meeting.{ends, Meets, brackets-meet}
 use Rattle.exact.specs.laws.Pairs.{_⊆_, Monotone, pairs-isotone}
 use Rattle.exact.specs.laws.Ratio.{above-one, ≼-trans, ⊕-upper, recip-anti, above-mono, ⊖-anti}
+use Rattle.exact.specs.laws.Tests.{false-true}
 use Rattle.exact.specs.Holding.{Holds}
-
-pub false-true : _≡_ {A = Bool} false true → ⊥
-false-true e = let z : _≡_ {A = ℕ} 0 1 = cc in omega arith
 
 -- `Inside x i`: where the interval i is there, so is the bracket x, and i contains it
 abbrev pub Inside : Option Bracket → Option Bracket → Type 0

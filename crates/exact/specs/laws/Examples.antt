@@ -12,7 +12,8 @@ use Rattle.exact.specs.Bracket.{smaller, larger, Bracket, Meet, overPair
 use Rattle.exact.specs.Series.{oneOver, even, lnTerm, gap, lnTail, seriesLower, seriesUpper, climb, exponent, fraction, argument, third, factorial, expTerm, expLower, expTail, expUpper}
 use Rattle.exact.specs.LnExp.{ln2Lower, ln2Upper, lnLower, lnUpper, lnLowerAt, lnUpperAt, expUpperOf, oneOverOf, expLowerAt, expUpperAt}
 use Rattle.exact.specs.Formula.{Formula, const, sub, div, least, ln, exp, wholePower, powerOf, bracketAt, lift, _>>_, quotientB, lnB, expB}
-use Rattle.exact.specs.laws.Containment.{false-true, inside, inside-true}
+use Rattle.exact.specs.laws.Containment.{inside, inside-true}
+use Rattle.exact.specs.laws.Tests.{false-true, both-true}
 use Rattle.exact.specs.laws.Decide.{decAbove0, decF, decPositive, decPositives}
 use Rattle.exact.specs.laws.Pairs.{_⊆_}
 
@@ -87,12 +88,6 @@ agrees none none = true
 agrees none (some I) = false
 agrees (some A) none = false
 agrees (some A) (some I) = inside (some A) I && inside (some I) A
-
-both-true : (a b : Bool) → (a && b) ≡ true → (a ≡ true) × (b ≡ true)
-both-true true true e = (refl, refl)
-both-true true false e = absurd (false-true e)
-both-true false true e = absurd (false-true e)
-both-true false false e = absurd (false-true e)
 
 agrees-true : (x y : Option Bracket) → agrees x y ≡ true → Agree x y
 unfolding agrees

@@ -5,13 +5,9 @@ use mathlib.Core.Bool.{Bool, true, false, _&&_, _||_}
 use native.Mathlib.Omega.{arith}
 use lib.Dec.{leb}
 use borrow.Author.Tests.{leb-true, not-false}
+use Rattle.exact.specs.laws.Tests.{both-true}
 use Rattle.frame.specs.Digits.{within}
 use Rattle.frame.specs.Verdicts.{outside}
-
--- both parts of a conjunction that holds
-pub both : (a b : Bool) → (a && b) ≡ true → (a ≡ true) × (b ≡ true)
-both true b h = (refl, h)
-both false b h = let z : _≡_ {A = ℕ} 0 1 = cc in absurd (omega arith)
 
 -- neither part of a disjunction that fails
 pub neither : (a b : Bool) → (a || b) ≡ false → (a ≡ false) × (b ≡ false)
@@ -24,7 +20,7 @@ joined {a} {b} {c} {d} p q = ap (λ (x : Bool). x || c) p ∙ ap (λ (x : Bool).
 
 module _ (least most x : ℕ) where
   pub within-true : within least most x ≡ true → (least ≤ x) × (x ≤ most)
-  within-true h = let p = both (leb least x) (leb x most) h in (leb-true least x (p .0), leb-true x most (p .1))
+  within-true h = let p = both-true (leb least x) (leb x most) h in (leb-true least x (p .0), leb-true x most (p .1))
 
   pub inside : outside least most x ≡ false → (least ≤ x) × (x ≤ most)
   inside h = within-true (not-false _ h)

@@ -11,7 +11,8 @@ use lib.Seq.{drop-cons, take-suc-set, take-all}
 use borrow.Author.Tests.{le-ltb, lt-ltb, eq-eqb, ne-eqb, eqb-true}
 use Rattle.frame.specs.Digits.{within, digitOf, allDigits, bytesOf}
 use Rattle.frame.specs.Spelling.{spells, Spelled}
-use Rattle.frame.specs.laws.Limits.{both, within-true}
+use Rattle.exact.specs.laws.Tests.{both-true}
+use Rattle.frame.specs.laws.Limits.{within-true}
 
 -- what is taken from x + 16 to leave the digit that x stands for
 unfoldable pub baseOf : ℕ → ℕ
@@ -140,7 +141,7 @@ module _ {line before after : List ℕ} {answer : Bool} (s : Spelled line before
 
   pub yes-digits : answer ≡ true → allDigits line ≡ true
   unfolding spells
-  yes-digits h = both (eqb (length line) 44) (allDigits line) (sym (s .told) ∙ h) .1
+  yes-digits h = both-true (eqb (length line) 44) (allDigits line) (sym (s .told) ∙ h) .1
 
   pub no-digits : answer ≡ false → length line ≡ 44 → allDigits line ≡ false
   unfolding spells
@@ -149,5 +150,5 @@ module _ {line before after : List ℕ} {answer : Bool} (s : Spelled line before
   pub yes-length : answer ≡ true → length after ≡ 22
   unfolding spells
   yes-length h =
-      let size = eqb-true (length line) 44 (both (eqb (length line) 44) (allDigits line) (sym (s .told) ∙ h) .0) in
+      let size = eqb-true (length line) 44 (both-true (eqb (length line) 44) (allDigits line) (sym (s .told) ∙ h) .0) in
       ap length (yes-bytes h) ∙ length-bytesOf 22 line size

@@ -6,7 +6,7 @@ use mathlib.Core.List.{List, [], _∷_}
 use native.Mathlib.Omega.{arith}
 use lib.ListN.{length}
 use lib.Dec.{eqb, ltb}
-use borrow.Author.Tests.{eq-eqb, ne-eqb, eqb-true, ltb-false, not-false}
+use borrow.Author.Tests.{eq-eqb, ne-eqb, eqb-true, ltb-false, le-ltb, not-false}
 use Rattle.guidance.specs.declared.Case.{Case}
 use Rattle.guidance.specs.Cases as cases
 use Rattle.guidance.specs.Distances.{farther, cube24}
@@ -140,6 +140,13 @@ absent r ((q when false) ∷ later) c a h = absent r later c (neither (eqb (numb
 pub frame-no-digit : (frame : List ℕ) (room : ℕ) → frameVerdict frame room ≡ Refused Digit → ⊥
 unfolding frameVerdict tests
 frame-no-digit frame room h = absent Digit (tests (not (eqb (length frame) 22)) false (fieldsOf frame) room) (fieldsOf frame) refl h
+
+-- with room for an answer no line has refusal 8
+pub line-no-space : (line : List ℕ) (room : ℕ) → answerLength ≤ room → lineVerdict line room ≡ Refused Space → ⊥
+unfolding lineVerdict tests
+line-no-space line room enough h =
+    let d = fieldsOf (bytesOf line) in
+    absent Space (tests (not (eqb (length line) 44)) (not (allDigits line)) d room) d (simp (le-ltb room answerLength enough)) h
 
 -- a given heat is never missing
 pub heat-given : (frame : List ℕ) (room : ℕ) → 0 < fieldsOf frame .heat → frameVerdict frame room ≡ Refused Heat → ⊥
