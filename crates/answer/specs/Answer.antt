@@ -16,7 +16,7 @@ use Rattle.guidance.specs.declared.Case.{Case}
 use Rattle.guidance.specs.Clouds.{rangeOf}
 use Rattle.guidance.specs.Waves.{standardAir, overpressure, impulse}
 use Rattle.guidance.specs.Probits.{probit1, probit2, probit3, probit4, probit5}
-use Rattle.guidance.specs.Damage.{damage}
+use Rattle.damage.specs.Damage.{damage}
 use Rattle.frame.specs.declared.Verdict.{Verdict}
 use Rattle.frame.specs.declared.Verdict.the-variants.{Accepted, Refused}
 use Rattle.frame.specs.Verdicts.{frameVerdict, lineVerdict}

@@ -39,8 +39,8 @@ fn figures_of(c: Case) -> Figures
 fn reading_of(p: Probit) -> Ends
     ensures { λ r. ⌜ r ≡ reading p ⌝ }
 {
-    let lower = guidance::damage_at(p.lower);
-    let upper = guidance::damage_at(p.upper);
+    let lower = damage::damage_at(p.lower);
+    let upper = damage::damage_beside(p.lower, lower, p.upper);
     Ends { lower, upper }
 }
 

@@ -1,6 +1,4 @@
 pub mod Refusals
 pub mod Bytes
-pub mod Digits
 pub mod Verdicts
-pub mod Spelling
 pub mod laws

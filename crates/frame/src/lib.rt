@@ -1,14 +1,11 @@
 // The case frame and the line that spells it: fields, refusals in their order, the verdict.
 ghost use mathlib.Core.Path.{_≡_};
-ghost use mathlib.Core.Bool.{_||_, cond};
+ghost use mathlib.Core.Bool.{_||_};
 ghost use Prim.Native.Nat.{_+_, _-_, _<_};
 ghost use lib.ListN.{length, replicate};
 ghost use mathlib.Core.List.{_++_};
 ghost use Rattle.frame.specs.Refusals.{number, code, word};
 ghost use Rattle.frame.specs.Bytes.{twoAt, fourAt, fieldsOf};
-ghost use Rattle.frame.specs.Digits.{within, digitOf};
-ghost use Rattle.frame.specs.Spelling.{Spelled};
-ghost use Rattle.frame.specs.laws.Spelling.{baseOf};
 ghost use Rattle.frame.specs.laws.Tests.{caseVerdict};
 ghost use Rattle.frame.specs.Verdicts.{outside, settingOutside, quantityOutside, heatMissing, frameVerdict, lineVerdict};
 use guidance::Case;
@@ -94,12 +91,6 @@ fn wide(x: u8) -> u64
     x as u64
 }
 
-fn is_within(least: u64, most: u64, x: u64) -> bool
-    ensures { λ r. ⌜ r ≡ within least most x ⌝ }
-{
-    if least <= x { x <= most } else { false }
-}
-
 fn two(frame: &[u8], at: usize) -> u64
     requires { ⌜ at + 1 < length (now frame) ⌝ }
     ensures { λ r. ⌜ (r ≡ twoAt (now (frame .entry)) at) × (r < 65536) ⌝ }
@@ -132,55 +123,6 @@ fn fields_of(frame: &[u8]) -> Case
     }
 }
 
-// One of two numbers, by a test.
-fn choose(test: bool, a: u64, b: u64) -> u64
-    ensures { λ r. ⌜ r ≡ cond test a b ⌝ }
-{
-    if test { a } else { b }
-}
-
-// What is taken from x + 16 to leave the digit that x stands for, or 16. The three rows are tested without a branch.
-fn base_of(x: u64) -> u64
-    ensures { λ r. ⌜ r ≡ baseOf x ⌝ }
-{
-    let small = choose(is_within(97, 102, x), 103, x);
-    let capital = choose(is_within(65, 70, x), 71, small);
-    choose(is_within(48, 57, x), 64, capital)
-}
-
-fn digit_of(b: u8) -> u64
-    ensures { λ r. ⌜ r ≡ digitOf b ⌝ }
-{
-    let x = wide(b);
-    x + 16 - base_of(x)
-}
-
-// The bytes that a line of 44 digits spells, into `frame`; false, and the frame as it was, where the line is no such one.
-pub fn spell(line: &[u8], frame: &mut [u8; 22]) -> bool
-    ensures { λ r. ⌜ Spelled (now (line .entry)) (now (frame .entry)) (now (frame .exit)) r ⌝ }
-{
-    if line.len() != 44 {
-        return false;
-    }
-    let mut bytes = [0u8; 22];
-    let mut i = 0;
-    while i < 22 {
-        let at = 2 * i;
-        let high = digit_of(line[at]);
-        let low = digit_of(line[at + 1]);
-        if 15 < high {
-            return false;
-        }
-        if 15 < low {
-            return false;
-        }
-        bytes[i] = (16 * high + low) as u8;
-        i += 1;
-    }
-    *frame = bytes;
-    true
-}
-
 fn either(a: bool, b: bool) -> bool
     ensures { λ r. ⌜ r ≡ (a || b) ⌝ }
 {
@@ -190,7 +132,7 @@ fn either(a: bool, b: bool) -> bool
 fn is_outside(least: u64, most: u64, x: u64) -> bool
     ensures { λ r. ⌜ r ≡ outside least most x ⌝ }
 {
-    !is_within(least, most, x)
+    if least <= x { !(x <= most) } else { true }
 }
 
 fn setting_outside(c: Case) -> bool
@@ -269,7 +211,7 @@ pub fn decide_line(line: &[u8], room: usize) -> Verdict
 {
     if line.len() == 44 {
         let mut frame = [0u8; 22];
-        if spell(line, &mut frame) {
+        if spelling::spell(line, &mut frame) {
             decide_frame(&frame, room)
         } else {
             Verdict::Refused(Refusal::Digit)

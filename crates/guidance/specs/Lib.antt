@@ -4,7 +4,6 @@ pub mod Clouds
 pub mod Distances
 pub mod Waves
 pub mod Probits
-pub mod Damage
 pub mod Cases
 pub mod CloudWords
 pub mod laws

@@ -3,6 +3,5 @@ pub mod Limits
 pub mod Energies
 pub mod Order
 pub mod Comparisons
-pub mod Readings
 pub mod Domain
 pub mod Known

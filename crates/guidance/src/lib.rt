@@ -7,12 +7,10 @@ ghost use Rattle.guidance.specs.Substances.{heatOf};
 ghost use Rattle.guidance.specs.Clouds.{rangeOf};
 ghost use Rattle.guidance.specs.Distances.{nearer, farther, cube034, cube24};
 ghost use Rattle.guidance.specs.Waves.{nearField};
-ghost use Rattle.guidance.specs.Damage.{damage};
 ghost use Rattle.guidance.specs.Cases.{Fields};
 ghost use Rattle.guidance.specs.CloudWords.{Heated, CloudOf, Placed, Compared, joulesOf, weightOf, scaledBy, millionths};
 
 mod arithmetic;
-mod readings;
 mod substances;
 
 // The air pressure of a frame of 22 bytes, Pa (001).
@@ -162,15 +160,4 @@ pub fn is_under_034(c: Case, k: Cloud, air: u64) -> bool
     ensures { λ r. ⌜ r ≡ nearer cube034 air c ⌝ }
 {
     is_nearer(c, k, air, 39_304)
-}
-
-// The damage at a probit in thousandths, in tenths of a percent.
-pub fn damage_at(probit: i64) -> u64
-    ensures { λ r. ⌜ r ≡ damage probit ⌝ }
-{
-    if probit >= 0 {
-        readings::reading(probit as u64)
-    } else {
-        0
-    }
 }

@@ -70,10 +70,10 @@ fn show_readings() {
         b"Table 3",
         b" at 2669: \n, at 2670: \n, at 8089: \n, at 8090: ",
         &[
-            guidance::damage_at(2669),
-            guidance::damage_at(2670),
-            guidance::damage_at(8089),
-            guidance::damage_at(8090),
+            damage::damage_at(2669),
+            damage::damage_at(2670),
+            damage::damage_at(8089),
+            damage::damage_at(8090),
         ],
     );
 }

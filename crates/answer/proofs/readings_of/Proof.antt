@@ -1,5 +1,6 @@
 -- `answer::readings_of` meets its contract. Assumes nothing.
 use Rattle.answer.specs.Answer.{readings}
+use mathlib.Core.Path.{refl}
 use borrow.Author.Needs.{needs}
 use Rattle.answer.proofs.readings_of.Statement.{statement}
 use Rattle.answer.proofs.readings_of.Tie as tie
@@ -21,7 +22,16 @@ reading-of-requires-5 c κs = search needs
 
 returns : tie.Need-returns
 unfolding readings
-returns c = cc
+returns c =
+    let third = c .before .before in
+    rw (
+      third .before .before .reading-of .ensures,
+      third .before .reading-of2 .ensures,
+      third .reading-of3 .ensures,
+      c .before .reading-of4 .ensures,
+      c .reading-of5 .ensures,
+    )
+    refl
 
 pub readings-of-spec : {M : Type 1} → statement M
 readings-of-spec =

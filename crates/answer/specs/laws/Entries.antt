@@ -10,10 +10,10 @@ use Rattle.signed.specs.TwoParts.{up, dn}
 use Rattle.exact.specs.Fraction.{_⊑_, _⊞_, neg, _⊟_}
 use Rattle.exact.specs.Formula.{Formula}
 use Rattle.guidance.specs.declared.Case.{Case}
-use Rattle.guidance.specs.Damage.{damage}
-use Rattle.guidance.specs.laws.Readings.{Neighbours, neighbours}
+use Rattle.damage.specs.Damage.{damage}
+use Rattle.damage.specs.laws.Readings.{Neighbours, neighbours}
 use Rattle.frame.specs.declared.Verdict.{Verdict}
-use Rattle.frame.specs.Digits.{allDigits, bytesOf}
+use Rattle.spelling.specs.Digits.{allDigits, bytesOf}
 use Rattle.frame.specs.laws.Verdicts.{line-frame}
 use Rattle.layout.specs.declared.Probit.{Probit}
 use Rattle.layout.specs.declared.Damages.{Damages}

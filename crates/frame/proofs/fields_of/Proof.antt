@@ -1,5 +1,6 @@
 -- `frame::fields_of` meets its contract: each field is the number at its place. Assumes nothing.
 use Rattle.frame.specs.Bytes.{fieldsOf}
+use mathlib.Core.Path.{refl}
 use borrow.Author.Needs.{needs}
 use Rattle.frame.proofs.fields_of.Statement.{statement}
 use Rattle.frame.proofs.fields_of.Tie as tie
@@ -48,7 +49,25 @@ two-requires-3 c κs = search needs
 
 returns : tie.Need-returns
 unfolding fieldsOf
-returns c = cc
+returns c =
+    let heat = c .before .before in
+    let mean = heat .before .before in
+    let surroundings = mean .before .before in
+    let placement = surroundings .before .before in
+    let state = placement .before .before in
+    rw (
+      state .before .before .wide .ensures .0,
+      state .wide2 .ensures .0,
+      placement .wide3 .ensures .0,
+      surroundings .wide4 .ensures .0,
+      mean .before .four .ensures,
+      mean .two .ensures .0,
+      heat .before .two2 .ensures .0,
+      heat .four2 .ensures,
+      c .before .four3 .ensures,
+      c .two3 .ensures .0,
+    )
+    refl
 
 pub fields-of-spec : {M : Type 1} → statement M
 fields-of-spec =

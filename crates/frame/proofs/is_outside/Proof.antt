@@ -1,15 +1,13 @@
--- `frame::is_outside` meets its contract: it is not within. Assumes nothing.
-use mathlib.Core.Path.{ap}
-use mathlib.Core.Bool.{not}
-use borrow.Author.Needs.{needs}
+-- `frame::is_outside` meets its contract, by its two comparisons. Assumes nothing.
+use borrow.Author.Tests.{le-leb, lt-leb}
 use Rattle.frame.proofs.is_outside.Statement.{statement}
 use Rattle.frame.proofs.is_outside.Tie as tie
 
-is-within-requires : tie.Need-is-within-requires
-is-within-requires c κs = search needs
-
 returns : tie.Need-returns
-returns c = ap not (c .is-within .ensures)
+returns c = simp (le-leb _ _ (c .if1 .taken))
+
+returns-2 : tie.Need-returns-2
+returns-2 c = simp (lt-leb _ _ (c .if1 .left))
 
 pub is-outside-spec : {M : Type 1} → statement M
-is-outside-spec = tie.close (tie.spec is-within-requires returns)
+is-outside-spec = tie.close (tie.spec returns returns-2)

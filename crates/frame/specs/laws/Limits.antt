@@ -3,10 +3,8 @@ use Prim.Native.Nat.{ℕ, _≤_}
 use mathlib.Core.Path.{_≡_, refl, ap, _∙_}
 use mathlib.Core.Bool.{Bool, true, false, _&&_, _||_}
 use native.Mathlib.Omega.{arith}
-use lib.Dec.{leb}
-use borrow.Author.Tests.{leb-true, not-false}
-use Rattle.exact.specs.laws.Tests.{both-true}
-use Rattle.frame.specs.Digits.{within}
+use borrow.Author.Tests.{not-false}
+use Rattle.spelling.specs.laws.Within.{within-true}
 use Rattle.frame.specs.Verdicts.{outside}
 
 -- neither part of a disjunction that fails
@@ -18,9 +16,5 @@ neither true b h = let z : _≡_ {A = ℕ} 0 1 = cc in absurd (omega arith)
 pub joined : {a b c d : Bool} → a ≡ b → c ≡ d → (a || c) ≡ (b || d)
 joined {a} {b} {c} {d} p q = ap (λ (x : Bool). x || c) p ∙ ap (λ (x : Bool). b || x) q
 
-module _ (least most x : ℕ) where
-  pub within-true : within least most x ≡ true → (least ≤ x) × (x ≤ most)
-  within-true h = let p = both-true (leb least x) (leb x most) h in (leb-true least x (p .0), leb-true x most (p .1))
-
-  pub inside : outside least most x ≡ false → (least ≤ x) × (x ≤ most)
-  inside h = within-true (not-false _ h)
+pub inside : (least most x : ℕ) → outside least most x ≡ false → (least ≤ x) × (x ≤ most)
+inside least most x h = within-true least most x (not-false _ h)

@@ -16,10 +16,10 @@ use Rattle.frame.specs.declared.Refusal.the-variants.{Length, Digit, Sub
 use Rattle.frame.specs.declared.Verdict.the-variants.{Accepted, Refused}
 use Rattle.frame.specs.Refusals.{number}
 use Rattle.frame.specs.Bytes.{fieldsOf}
-use Rattle.frame.specs.Digits.{allDigits, bytesOf}
+use Rattle.spelling.specs.Digits.{allDigits, bytesOf}
 use Rattle.frame.specs.Verdicts.{Test, _when_, outside, settingOutside, quantityOutside, heatMissing, answerLength, tests, firstOf, frameVerdict, lineVerdict}
 use Rattle.frame.specs.laws.Limits.{neither, joined}
-use Rattle.frame.specs.laws.Spelling.{length-bytesOf}
+use Rattle.spelling.specs.laws.Spelling.{length-bytesOf}
 use Rattle.frame.specs.laws.Tests.{caseVerdict, heated}
 
 -- by tests 1 and 2

@@ -1,0 +1,3 @@
+-- Table 3: the reading to believe, and laws.
+pub mod Damage
+pub mod laws

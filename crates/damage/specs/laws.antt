@@ -1,0 +1,2 @@
+-- The laws: nothing here need be believed.
+pub mod Readings

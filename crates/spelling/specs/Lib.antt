@@ -1,0 +1,4 @@
+-- Hexadecimal digits and the bytes that they spell.
+pub mod Digits
+pub mod Spelling
+pub mod laws

@@ -1,0 +1,4 @@
+-- Laws of the definitions.
+pub mod Within
+pub mod Worth
+pub mod Spelling
