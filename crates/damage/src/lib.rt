@@ -1,7 +1,7 @@
 // Table 3 of 003: the damage that a probit reads.
 ghost use mathlib.Core.Path.{_≡_};
 ghost use Prim.Native.Nat.{_*_};
-ghost use Rattle.damage.specs.Damage.{notAbove, table, tenthsOfPercent, damage as Damage·damage};
+ghost use Rattle.damage.specs.Damage.{notAbove, table, tenthsOfPercent, damage};
 ghost use Rattle.damage.specs.laws.Readings.{fromZero};
 
 // The probits of 1 to 99 percent, then of 99.1 to 99.9 percent, in hundredths (003, Table 3).
@@ -165,18 +165,18 @@ fn from_zero(probit: i64) -> u64
 
 // The damage at a probit in thousandths, in tenths of a percent.
 pub fn damage_at(probit: i64) -> u64
-    ensures { λ r. ⌜ r ≡ Damage·damage probit ⌝ }
+    ensures { λ r. ⌜ r ≡ damage probit ⌝ }
 {
     reading(from_zero(probit))
 }
 
 // The damage at a probit beside another one, whose damage is known: the table is in hundredths, and the two mostly have the same.
-pub fn damage_beside(known: i64, damage: u64, probit: i64) -> u64
-    requires { ⌜ damage ≡ Damage·damage known ⌝ }
-    ensures { λ r. ⌜ r ≡ Damage·damage probit ⌝ }
+pub fn damage_beside(known: i64, found: u64, probit: i64) -> u64
+    requires { ⌜ found ≡ damage known ⌝ }
+    ensures { λ r. ⌜ r ≡ damage probit ⌝ }
 {
     if from_zero(known) / 10 == from_zero(probit) / 10 {
-        damage
+        found
     } else {
         damage_at(probit)
     }

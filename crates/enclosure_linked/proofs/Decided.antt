@@ -1,14 +1,12 @@
 -- What the test `!k` leaves of a decided k, in either branch. Assumes nothing.
 use mathlib.Core.Path.{_≡_}
-use mathlib.Core.Bool.{Bool, true, false, not}
-use Prim.Native.Nat.{ℕ}
-use native.Mathlib.Omega.{arith}
+use mathlib.Core.Bool.{Bool, true, false, true≢false, false≢true, not}
 use Rattle.enclosure_linked.specs.Answers.{Decides}
 
 pub holds : (P : Type 0) (k : Bool) → not k ≡ false → Decides P k → P
 holds P true e d = d
-holds P false e d = let z : _≡_ {A = ℕ} 0 1 = cc in absurd (omega arith)
+holds P false e d = absurd (true≢false e)
 
 pub fails : (P : Type 0) (k : Bool) → not k ≡ true → Decides P k → P → ⊥
-fails P true e d p = let z : _≡_ {A = ℕ} 0 1 = cc in omega arith
+fails P true e d p = false≢true e
 fails P false e d p = d p

@@ -1,7 +1,7 @@
 -- The machine's division of a signed number, made downward: above zero it is the machine's own, below zero that of the complements.
 -- Assumes nothing.
 use mathlib.Core.Path.{_≡_, sym, ap, _∙_}
-use mathlib.Core.Bool.{Bool, true, false, cond}
+use mathlib.Core.Bool.{Bool, true, false, false≢true, cond}
 use Prim.Native.Nat.{ℕ, zero, suc, _-_, _/_, _^_, _<_}
 use native.Mathlib.Nat.{zero-add, div-le-self}
 use native.Mathlib.Omega.{arith}
@@ -11,7 +11,7 @@ use mir.Syntax.{w64}
 use mir.Val.{SFits}
 use borrow.Author.Tests.{le-leb, le-ltb}
 use Rattle.fixed.specs.FloorAndCeiling.{floorZ}
-use Rattle.signed.specs.Reading.{R, back, never}
+use Rattle.signed.specs.Reading.{R, back}
 
 fits : {e v : ℤ} → e ≡ v → mag v < 2 ^ 63 → SFits w64 e
 fits p h = rw p (record { sfits = h })
@@ -38,7 +38,7 @@ above x d h t = go x h (rw (back x h) at t)
         let e : quotZ (R (pos a)) (pos d) ≡ pos (a / d) = ap (λ (z : ℤ). quotZ z (pos d)) (back (pos a) h) in
         let s : a / d < 2 ^ 63 = omega (arith, div-le-self a d) in
         record { quotient = fits e s; result = read e s }
-    go (negsuc a) h t = absurd (never t)
+    go (negsuc a) h t = absurd (false≢true t)
 
 pub record Below (x : ℤ) (d : ℕ) : Type 0 where
   pub complement : SFits w64 (negsuc 0 -ℤ R x)
@@ -50,7 +50,7 @@ pub below : (x : ℤ) (d : ℕ) → mag x < 2 ^ 63 → leZ (pos 0) (R x) ≡ fal
 below x d h t = go x h (rw (back x h) at t)
   where
     go : (x : ℤ) → mag x < 2 ^ 63 → leZ (pos 0) x ≡ false → Below x d
-    go (pos a) h t = absurd (never (sym t ∙ le-leb 0 a (omega arith)))
+    go (pos a) h t = absurd (false≢true (sym t ∙ le-leb 0 a (omega arith)))
     go (negsuc a) h t =
         let e : negsuc 0 -ℤ R (negsuc a) ≡ pos a = ap (λ (z : ℤ). negsuc 0 -ℤ z) (back (negsuc a) h) ∙ complement-neg a in
         let f : quotZ (R (negsuc 0 -ℤ R (negsuc a))) (pos d) ≡ pos (a / d) = ap (λ (z : ℤ). quotZ z (pos d)) (read e h) in

@@ -13,7 +13,7 @@ use Rattle.frame.specs.declared.Refusal.the-variants.{Length, Digit, Sub
 use Rattle.frame.specs.declared.Verdict.{Verdict}
 use Rattle.frame.specs.declared.Verdict.the-variants.{Accepted, Refused}
 use Rattle.frame.specs.Bytes.{fieldsOf}
-use Rattle.spelling.specs.Digits.{within, allDigits, bytesOf}
+use Rattle.hexadecimals.specs.Digits.{within, allDigits, bytesOf}
 
 -- a refusal, and whether its test applies
 infixl 60 _when_

@@ -211,7 +211,7 @@ pub fn decide_line(line: &[u8], room: usize) -> Verdict
 {
     if line.len() == 44 {
         let mut frame = [0u8; 22];
-        if spelling::spell(line, &mut frame) {
+        if hexadecimals::spell(line, &mut frame) {
             decide_frame(&frame, room)
         } else {
             Verdict::Refused(Refusal::Digit)

@@ -22,7 +22,7 @@ pub(crate) fn answer_as_frame(line: &[u8], area: &mut [u8], room: usize) -> u64
     requires { ⌜ room ≤ length (now area) ⌝ }
 {
     let mut frame = [0u8; 22];
-    if spelling::spell(line, &mut frame) {
+    if hexadecimals::spell(line, &mut frame) {
         answer_to_frame(&frame, area, room)
     } else {
         NO_FRAME

@@ -1,7 +1,7 @@
 -- Signed words of 64 bits in a proof: each comes as `toZ w64 (ofZ w64 z)`, read back from its bits, which is z itself wherever z fits; and
 -- what a word is after a test of its sign. Assumes nothing.
 use mathlib.Core.Path.{_≡_, refl, sym, ap, _∙_}
-use mathlib.Core.Bool.{true, false}
+use mathlib.Core.Bool.{true, false, false≢true}
 use Prim.Native.Nat.{ℕ, _^_, _<_}
 use native.Mathlib.Omega.{arith}
 use lib.IntN.{ℤ, pos, negsuc}
@@ -22,16 +22,12 @@ back z h = toZ-ofZ w64 z (record { sfits = h })
 pub step : {e v : ℤ} → e ≡ v → mag v < 2 ^ 63 → R e ≡ v
 step {v = v} p h = ap R p ∙ back v h
 
--- a test does not fail and hold
-pub never : false ≡ true → ⊥
-never h = let z : _≡_ {A = ℕ} 0 1 = cc in omega arith
-
 is-pos : (z : ℤ) → leZ (pos 0) z ≡ true → (a : ℕ) × (z ≡ pos a)
 is-pos (pos a) h = (a, refl)
-is-pos (negsuc a) h = absurd (never h)
+is-pos (negsuc a) h = absurd (false≢true h)
 
 is-neg : (z : ℤ) → leZ (pos 0) z ≡ false → (a : ℕ) × (z ≡ negsuc a)
-is-neg (pos a) h = absurd (never (sym h ∙ le-leb 0 a (omega arith)))
+is-neg (pos a) h = absurd (false≢true (sym h ∙ le-leb 0 a (omega arith)))
 is-neg (negsuc a) h = (a, refl)
 
 -- x is pos a, or negsuc a, after the test 0 <= x: as the contract has it and as the code reads it

@@ -13,7 +13,7 @@ use Rattle.guidance.specs.declared.Case.{Case}
 use Rattle.damage.specs.Damage.{damage}
 use Rattle.damage.specs.laws.Readings.{Neighbours, neighbours}
 use Rattle.frame.specs.declared.Verdict.{Verdict}
-use Rattle.spelling.specs.Digits.{allDigits, bytesOf}
+use Rattle.hexadecimals.specs.Digits.{allDigits, bytesOf}
 use Rattle.frame.specs.laws.Verdicts.{line-frame}
 use Rattle.layout.specs.declared.Probit.{Probit}
 use Rattle.layout.specs.declared.Damages.{Damages}

@@ -4,7 +4,7 @@
 use Prim.Native.Nat.{ℕ, zero, suc, _≤_}
 use mathlib.Core.Path.{_≡_, refl}
 use native.Mathlib.Omega.{arith}
-use mathlib.Core.Bool.{Bool, true, false}
+use mathlib.Core.Bool.{Bool, true, false, false≢true}
 use mathlib.Core.Option.{Option, none, some}
 use Rattle.exact.specs.Fraction.{Ratio, _≼_, Above0, whole, _⊖_, sum, Frac, _⊑_, Positive, zeroF, neg, magnitude, oneF}
 use Rattle.exact.specs.Bracket.{Bracket, overPairs}
@@ -20,7 +20,6 @@ use Rattle.exact.specs.laws.Ln.{ln-lower-mono, ln-upper-mono}
 use Rattle.exact.specs.laws.Meeting.{ends, Meets, brackets-meet}
 use Rattle.exact.specs.laws.Pairs.{_⊆_, Monotone, pairs-isotone}
 use Rattle.exact.specs.laws.Ratio.{above-one, ≼-trans, ⊕-upper, recip-anti, above-mono, ⊖-anti}
-use Rattle.exact.specs.laws.Tests.{false-true}
 use Rattle.exact.specs.Holding.{Holds}
 
 -- `Inside x i`: where the interval i is there, so is the bracket x, and i contains it
@@ -53,14 +52,14 @@ inside (some A) I = elim (decF (I .lo) (A .lo)) [ yes h ↦ elim (decF (A .hi) (
 
 pub inside-true : (x : Option Bracket) (I : Bracket) → inside x I ≡ true → Inside x (some I)
 unfolding inside
-inside-true none I e = absurd (false-true e)
+inside-true none I e = absurd (false≢true e)
 inside-true (some A) I e = go (decF (I .lo) (A .lo)) (decF (A .hi) (I .hi)) e
   where
     go : (d : Dec (I .lo ⊑ A .lo)) (c : Dec (A .hi ⊑ I .hi))
         → _≡_ {A = Bool} (elim d [ yes h ↦ elim c [ yes k ↦ true | no k ↦ false ] | no h ↦ false ]) true → A ⊆ I
     go (yes h) (yes k) e = record { above = h; below = k }
-    go (yes h) (no k) e = absurd (false-true e)
-    go (no h) c e = absurd (false-true e)
+    go (yes h) (no k) e = absurd (false≢true e)
+    go (no h) c e = absurd (false≢true e)
 
 -- widening
 pub inside-wider : (x : Option Bracket) {I J : Bracket} → I ⊆ J → Inside x (some I) → Inside x (some J)

@@ -1,7 +1,7 @@
 -- Brackets worked by hand from 01, "What exact means": a table, computed by the checker. Assumes nothing.
 use Prim.Native.Nat.{ℕ, suc, _-_}
 use mathlib.Core.Path.{_≡_, refl}
-use mathlib.Core.Bool.{Bool, true, false, _&&_}
+use mathlib.Core.Bool.{Bool, true, false, false≢true, _&&_}
 use mathlib.Core.Logic.{Dec·and}
 use mathlib.Core.Option.{Option, none, some}
 use mathlib.Core.List.{List, [], _∷_}
@@ -13,7 +13,7 @@ use Rattle.exact.specs.Series.{oneOver, even, lnTerm, gap, lnTail, serie
 use Rattle.exact.specs.LnExp.{ln2Lower, ln2Upper, lnLower, lnUpper, lnLowerAt, lnUpperAt, expUpperOf, oneOverOf, expLowerAt, expUpperAt}
 use Rattle.exact.specs.Formula.{Formula, const, sub, div, least, ln, exp, wholePower, powerOf, bracketAt, lift, _>>_, quotientB, lnB, expB}
 use Rattle.exact.specs.laws.Containment.{inside, inside-true}
-use Rattle.exact.specs.laws.Tests.{false-true, both-true}
+use Rattle.exact.specs.laws.Tests.{both-true}
 use Rattle.exact.specs.laws.Decide.{decAbove0, decF, decPositive, decPositives}
 use Rattle.exact.specs.laws.Pairs.{_⊆_}
 
@@ -92,8 +92,8 @@ agrees (some A) (some I) = inside (some A) I && inside (some I) A
 agrees-true : (x y : Option Bracket) → agrees x y ≡ true → Agree x y
 unfolding agrees
 agrees-true none none e = tt
-agrees-true none (some I) e = false-true e
-agrees-true (some A) none e = false-true e
+agrees-true none (some I) e = false≢true e
+agrees-true (some A) none e = false≢true e
 agrees-true (some A) (some I) e =
     let b = both-true _ _ e in
     (inside-true (some A) I (b .0), inside-true (some I) A (b .1))

@@ -4,7 +4,7 @@ use Prim.Native.Nat.{ℕ}
 use mathlib.Core.List.{List}
 use denote.Ref.{now}
 use Rattle.frame.specs.Verdicts.{frameVerdict}
-use Rattle.spelling.specs.laws.Spelling.{yes-bytes, yes-digits, no-digits, yes-length}
+use Rattle.hexadecimals.specs.laws.Spelling.{yes-bytes, yes-digits, no-digits, yes-length}
 use Rattle.frame.specs.laws.Verdicts.{line-frame, line-length, line-digit}
 use borrow.Author.Needs.{needs}
 use Rattle.frame.proofs.decide_line.Statement.{statement}

@@ -12,7 +12,7 @@ use Rattle.guidance.specs.Distances.{less, metres, cubed, farther, cube24}
 use Rattle.frame.specs.declared.Refusal.the-variants.{Length, Digit, Setting, Heat}
 use Rattle.frame.specs.declared.Verdict.the-variants.{Accepted, Refused}
 use Rattle.frame.specs.Bytes.{fieldsOf}
-use Rattle.spelling.specs.Digits.{digitOf, allDigits, bytesOf}
+use Rattle.hexadecimals.specs.Digits.{digitOf, allDigits, bytesOf}
 use Rattle.frame.specs.Verdicts.{settingOutside, quantityOutside, heatMissing, tests, firstOf, frameVerdict, lineVerdict}
 
 -- 00000001000000640001000100000000000000640046

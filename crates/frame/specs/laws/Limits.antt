@@ -1,16 +1,15 @@
 -- Laws of the test that a number lies within its values. Assumes nothing.
 use Prim.Native.Nat.{ℕ, _≤_}
 use mathlib.Core.Path.{_≡_, refl, ap, _∙_}
-use mathlib.Core.Bool.{Bool, true, false, _&&_, _||_}
-use native.Mathlib.Omega.{arith}
+use mathlib.Core.Bool.{Bool, true, false, true≢false, _||_}
 use borrow.Author.Tests.{not-false}
-use Rattle.spelling.specs.laws.Within.{within-true}
+use Rattle.hexadecimals.specs.laws.Within.{within-true}
 use Rattle.frame.specs.Verdicts.{outside}
 
 -- neither part of a disjunction that fails
 pub neither : (a b : Bool) → (a || b) ≡ false → (a ≡ false) × (b ≡ false)
 neither false b h = (refl, h)
-neither true b h = let z : _≡_ {A = ℕ} 0 1 = cc in absurd (omega arith)
+neither true b h = absurd (true≢false h)
 
 -- the answer of `||` over equal answers
 pub joined : {a b c d : Bool} → a ≡ b → c ≡ d → (a || c) ≡ (b || d)

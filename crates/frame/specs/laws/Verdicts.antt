@@ -1,7 +1,7 @@
 -- Laws of the verdicts: when each is given, and what an accepted case satisfies. Assumes nothing.
 use Prim.Native.Nat.{ℕ, _≤_, _<_}
-use mathlib.Core.Path.{_≡_, refl, ap, sym}
-use mathlib.Core.Bool.{Bool, true, false, not, _&&_, _||_, and-false}
+use mathlib.Core.Path.{_≡_, refl, ap, sym, _∙_}
+use mathlib.Core.Bool.{Bool, true, false, true≢false, not, _&&_, _||_, and-false}
 use mathlib.Core.List.{List, [], _∷_}
 use native.Mathlib.Omega.{arith}
 use lib.ListN.{length}
@@ -16,10 +16,10 @@ use Rattle.frame.specs.declared.Refusal.the-variants.{Length, Digit, Sub
 use Rattle.frame.specs.declared.Verdict.the-variants.{Accepted, Refused}
 use Rattle.frame.specs.Refusals.{number}
 use Rattle.frame.specs.Bytes.{fieldsOf}
-use Rattle.spelling.specs.Digits.{allDigits, bytesOf}
+use Rattle.hexadecimals.specs.Digits.{allDigits, bytesOf}
 use Rattle.frame.specs.Verdicts.{Test, _when_, outside, settingOutside, quantityOutside, heatMissing, answerLength, tests, firstOf, frameVerdict, lineVerdict}
 use Rattle.frame.specs.laws.Limits.{neither, joined}
-use Rattle.spelling.specs.laws.Spelling.{length-bytesOf}
+use Rattle.hexadecimals.specs.laws.Spelling.{length-bytesOf}
 use Rattle.frame.specs.laws.Tests.{caseVerdict, heated}
 
 -- by tests 1 and 2
@@ -132,8 +132,7 @@ absent r ((q when true) ∷ later) c a h =
     let e : q ≡ r = cc in
     let n = neither (eqb (number q) (number r) && true) (applies r later) a .0 in
     let y : (eqb (number q) (number r) && true) ≡ true = simp (eq-eqb (number q) (number r) (ap number e)) in
-    let z : _≡_ {A = ℕ} 0 1 = cc in
-    omega arith
+    true≢false (sym y ∙ n)
 absent r ((q when false) ∷ later) c a h = absent r later c (neither (eqb (number q) (number r) && false) (applies r later) a .1) h
 
 -- a frame given as bytes has no test 2

@@ -1,6 +1,6 @@
 -- `known_cases::answers::answer_as_frame` lends no more than the area has. Assumes nothing.
 use mathlib.Core.Path.{sym}
-use Rattle.spelling.specs.laws.Spelling.{yes-length}
+use Rattle.hexadecimals.specs.laws.Spelling.{yes-length}
 use borrow.Author.Needs.{needs}
 use Rattle.known_cases.proofs.answers.answer_as_frame.Statement.{statement}
 use Rattle.known_cases.proofs.answers.answer_as_frame.Tie as tie

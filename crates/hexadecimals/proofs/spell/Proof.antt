@@ -1,13 +1,12 @@
--- `spelling::spell` meets its contract: the digits are worked first, then two of them make a byte. Assumes nothing.
+-- `hexadecimals::spell` meets its contract: the digits are worked first, then two of them make a byte. Assumes nothing.
 use mathlib.Core.Path.{_≡_, refl}
-use Prim.Native.Nat.{_+_, _*_, _-_, _≤_, _<_}
-use lib.ListN.{length}
+use Prim.Native.Nat.{_+_, _*_, _-_, _≤_}
 use borrow.Author.Needs.{needs}
 use native.Mathlib.Omega.{arith}
-use Rattle.spelling.specs.laws.Worth.{Worth, all-worth, not-all, digit-at, digit-most}
-use Rattle.spelling.specs.laws.Spelling.{Begun, begin, again, other-length, other-character, frame-spelled}
-use Rattle.spelling.proofs.spell.Statement.{statement}
-use Rattle.spelling.proofs.spell.Tie as tie
+use Rattle.hexadecimals.specs.laws.Worth.{Worth, not-all, digit-most}
+use Rattle.hexadecimals.specs.laws.Spelling.{Begun, begin, again, other-length, other-character, frame-spelled}
+use Rattle.hexadecimals.proofs.spell.Statement.{statement}
+use Rattle.hexadecimals.proofs.spell.Tie as tie
 
 abbrev Inv-loop : tie.InvT-loop
 Inv-loop line frame worth most bytes₀ i₀ bytes i = Worth line worth 44 most × (most ≤ 15) × Begun 22 line bytes i
@@ -69,11 +68,10 @@ loop-again : tie.Need-loop-again Inv-loop μ-loop
 loop-again c =
     let inv = c .before .loop .inv in
     let i = c .before .loop .i in
-    let w = inv .0 in
-    let fits : 2 * i + 1 < 44 = omega arith in (
+    let w = inv .0 in (
       w,
       inv .1,
-      again (inv .2) (omega (arith, w .size)) (digit-at w (2 * i) (omega arith)) (digit-at w (2 * i + 1) (omega arith)) (omega arith) (digit-most w (inv .1) (2 * i) (omega arith)) (digit-most w (inv .1) (2 * i + 1) (omega arith)),
+      again (inv .2) (omega (arith, w .size)) (w .each (2 * i) (omega arith)) (w .each (2 * i + 1) (omega arith)) (omega arith) (digit-most w (inv .1) (2 * i) (omega arith)) (digit-most w (inv .1) (2 * i + 1) (omega arith)),
     )
 
 returns-3 : tie.Need-returns-3 Inv-loop μ-loop

@@ -3,9 +3,9 @@ ghost use mathlib.Core.Path.{_≡_};
 ghost use lib.ListN.{length};
 ghost use lib.Dec.{ltb};
 ghost use mathlib.Core.Bool.{_&&_};
-ghost use Rattle.spelling.specs.Digits.{within, digitOf};
-ghost use Rattle.spelling.specs.Spelling.{Spelled};
-ghost use Rattle.spelling.specs.laws.Worth.{Worth};
+ghost use Rattle.hexadecimals.specs.Digits.{within, digitOf};
+ghost use Rattle.hexadecimals.specs.Spelling.{Spelled};
+ghost use Rattle.hexadecimals.specs.laws.Worth.{Worth};
 
 fn is_within(least: u8, most: u8, x: u8) -> bool
     ensures { λ r. ⌜ r ≡ within least most x ⌝ }

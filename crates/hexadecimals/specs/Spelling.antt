@@ -5,7 +5,7 @@ use mathlib.Core.Bool.{Bool, _&&_, cond}
 use mathlib.Core.List.{List}
 use lib.Dec.{eqb}
 use lib.ListN.{length}
-use Rattle.spelling.specs.Digits.{allDigits, bytesOf}
+use Rattle.hexadecimals.specs.Digits.{allDigits, bytesOf}
 
 -- whether a line spells a frame
 unfoldable pub spells : List ℕ → Bool

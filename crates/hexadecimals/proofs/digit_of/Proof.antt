@@ -1,11 +1,11 @@
--- `spelling::digit_of` meets its contract, by the three rows of digits in their order. Assumes nothing.
+-- `hexadecimals::digit_of` meets its contract, by the three rows of digits in their order. Assumes nothing.
 use mathlib.Core.Path.{sym, _∙_}
 use native.Mathlib.Omega.{arith}
 use borrow.Author.Needs.{needs}
-use Rattle.spelling.specs.Digits.{digitOf}
-use Rattle.spelling.specs.laws.Within.{within-true}
-use Rattle.spelling.proofs.digit_of.Statement.{statement}
-use Rattle.spelling.proofs.digit_of.Tie as tie
+use Rattle.hexadecimals.specs.Digits.{digitOf}
+use Rattle.hexadecimals.specs.laws.Within.{within-true}
+use Rattle.hexadecimals.proofs.digit_of.Statement.{statement}
+use Rattle.hexadecimals.proofs.digit_of.Tie as tie
 
 is-within-requires : tie.Need-is-within-requires
 is-within-requires c κs = search needs

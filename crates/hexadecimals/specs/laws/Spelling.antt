@@ -9,8 +9,8 @@ use lib.Dec.{eqb}
 use lib.ListN.{length, getD, take, drop, set, length-set, drop-of-length-le}
 use lib.Seq.{drop-cons, take-suc-set, take-all}
 use borrow.Author.Tests.{lt-ltb, eq-eqb, ne-eqb, eqb-true}
-use Rattle.spelling.specs.Digits.{digitOf, allDigits, bytesOf}
-use Rattle.spelling.specs.Spelling.{spells, Spelled}
+use Rattle.hexadecimals.specs.Digits.{digitOf, allDigits, bytesOf}
+use Rattle.hexadecimals.specs.Spelling.{spells, Spelled}
 use Rattle.exact.specs.laws.Tests.{both-true}
 
 -- n bytes, of which i are made: what is left of the line decides, and gives the bytes that are left

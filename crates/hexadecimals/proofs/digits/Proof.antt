@@ -1,10 +1,10 @@
--- `spelling::digits` meets its contract: each turn works one character. Assumes nothing.
+-- `hexadecimals::digits` meets its contract: each turn works one character. Assumes nothing.
 use Prim.Native.Nat.{_-_}
 use native.Mathlib.Omega.{arith}
 use borrow.Author.Needs.{needs}
-use Rattle.spelling.specs.laws.Worth.{Worth, none-worked, next-worked, all-worked}
-use Rattle.spelling.proofs.digits.Statement.{statement}
-use Rattle.spelling.proofs.digits.Tie as tie
+use Rattle.hexadecimals.specs.laws.Worth.{Worth, none-worked, next-worked, all-worked}
+use Rattle.hexadecimals.proofs.digits.Statement.{statement}
+use Rattle.hexadecimals.proofs.digits.Tie as tie
 
 abbrev Inv-loop : tie.InvT-loop
 Inv-loop line worth₀ most₀ i₀ worth most i = Worth line worth i most

@@ -1,7 +1,7 @@
--- `spelling::is_within` meets its contract, by its two comparisons. Assumes nothing.
+-- `hexadecimals::is_within` meets its contract, by its two comparisons. Assumes nothing.
 use borrow.Author.Tests.{le-leb, lt-leb}
-use Rattle.spelling.proofs.is_within.Statement.{statement}
-use Rattle.spelling.proofs.is_within.Tie as tie
+use Rattle.hexadecimals.proofs.is_within.Statement.{statement}
+use Rattle.hexadecimals.proofs.is_within.Tie as tie
 
 returns : tie.Need-returns
 returns c = simp (le-leb _ _ (c .if1 .taken))

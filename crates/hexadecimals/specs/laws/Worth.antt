@@ -1,7 +1,7 @@
 -- What each character of a line is worth, one after the other, and whether all are digits. Assumes nothing.
 use Prim.Native.Nat.{ℕ, zero, suc, _+_, _≤_, _<_}
 use mathlib.Core.Path.{_≡_, refl, sym, ap, _∙_}
-use mathlib.Core.Bool.{Bool, true, false, _&&_}
+use mathlib.Core.Bool.{Bool, true, false, _&&_, and-assoc, and-comm}
 use mathlib.Core.List.{List, [], _∷_}
 use native.Mathlib.Numerals.{add-one}
 use native.Mathlib.Nat.{le-of-suc-le-suc, not-suc-le-zero}
@@ -12,7 +12,7 @@ use lib.ListN.{length, getD, drop, set, length-set, drop-of-length-le}
 use lib.Seq.{drop-cons, getD-set-same, getD-set-other}
 use borrow.Author.Tests.{le-ltb, lt-ltb, ltb-true}
 use Rattle.exact.specs.laws.Tests.{both-true}
-use Rattle.spelling.specs.Digits.{digitOf, allDigits}
+use Rattle.hexadecimals.specs.Digits.{digitOf, allDigits}
 
 -- the first i characters are worked: each is worth its digit, and all are digits if `most` is below 16 and those that are left are digits
 pub record Worth (line worth : List ℕ) (i most : ℕ) : Type 0 where
@@ -26,10 +26,6 @@ pub none-worked : (line worth : List ℕ) → length line ≡ 44 → length wort
 none-worked line worth h k =
     record { turns = omega arith; size = h; whole = k; each = λ k h. absurd (omega arith); digits = refl }
 
-both-assoc : (a b c : Bool) → (a && (b && c)) ≡ ((a && b) && c)
-both-assoc true b c = refl
-both-assoc false b c = refl
-
 -- one turn
 pub next-worked : {line worth : List ℕ} {i most d top : ℕ} → Worth line worth i most → i < 44 → d ≡ digitOf (getD line i 0)
     → ltb top 16 ≡ (ltb most 16 && ltb d 16) → Worth line (set worth i d) (i + 1) top
@@ -42,7 +38,7 @@ next-worked {line} {worth} {i} {most} {d} {top} w h e t =
       each = λ k l. at k l (decLe i k);
       digits = w .digits
           ∙ ap (λ (l : List ℕ). ltb most 16 && allDigits l) left
-          ∙ both-assoc (ltb most 16) (ltb (digitOf (getD line i 0)) 16) (allDigits (drop (i + 1) line))
+          ∙ sym (and-assoc (ltb most 16) (ltb (digitOf (getD line i 0)) 16) (allDigits (drop (i + 1) line)))
           ∙ ap (λ (n : ℕ). (ltb most 16 && ltb n 16) && allDigits (drop (i + 1) line)) (sym e)
           ∙ ap (λ (b : Bool). b && allDigits (drop (i + 1) line)) (sym t);
     }
@@ -67,17 +63,11 @@ below-two a b (yes h) d l = simp (lt-ltb a 16 h)
 below-two a b (no h) (yes k) l = absurd (omega arith)
 below-two a b (no h) (no k) l = simp (le-ltb a 16 (omega arith), le-ltb b 16 (omega arith))
 
-and-swapped : (a b : Bool) → (a && b) ≡ (b && a)
-and-swapped true true = refl
-and-swapped true false = refl
-and-swapped false true = refl
-and-swapped false false = refl
-
 pub below-both : {a b : ℕ} → a < b → ltb b 16 ≡ (ltb a 16 && ltb b 16)
 below-both {a} {b} h = below-two a b (decLe (suc a) 16) (decLe (suc b) 16) (omega arith)
 
 pub above-both : {a b : ℕ} → b ≤ a → ltb a 16 ≡ (ltb a 16 && ltb b 16)
-above-both {a} {b} h = below-two b a (decLe (suc b) 16) (decLe (suc a) 16) h ∙ and-swapped (ltb b 16) (ltb a 16)
+above-both {a} {b} h = below-two b a (decLe (suc b) 16) (decLe (suc a) 16) h ∙ and-comm (ltb b 16) (ltb a 16)
 
 -- each character of a line of digits is one
 each-digit : (line : List ℕ) (k : ℕ) → allDigits line ≡ true → k < length line → digitOf (getD line k 0) < 16
@@ -97,10 +87,6 @@ module _ {line worth : List ℕ} {most : ℕ} (w : Worth line worth 44 most) whe
 
   pub not-all : 15 < most → allDigits line ≡ false
   not-all h = w .digits ∙ simp (le-ltb most 16 (omega arith))
-
-  -- the digit at k
-  pub digit-at : (k : ℕ) → k < 44 → getD worth k 0 ≡ digitOf (getD line k 0)
-  digit-at = w .each
 
   pub digit-most : most ≤ 15 → (k : ℕ) → k < 44 → getD worth k 0 ≤ 15
   digit-most h k l = omega (arith, w .each k l, each-digit line k (all-worth h) (omega (arith, w .size)))
