@@ -1,11 +1,11 @@
 /* Times one case at a time, in memory, without text: the overpressure alone and the whole answer, proved and in plain doubles. `pressure ROUNDS` reads the lines from standard input. */
 #include "plain_double.h"
+#include "turns.h"
 #include "yakepuhi.h"
 
 #include <math.h>
 #include <stdio.h>
 #include <stdlib.h>
-#include <time.h>
 
 static uint8_t (*frames)[FRAME];
 static size_t cases;
@@ -63,52 +63,20 @@ static void compare(void)
     }
 }
 
-static double now(void)
-{
-    struct timespec t;
-    clock_gettime(CLOCK_PROCESS_CPUTIME_ID, &t);
-    return (double)t.tv_sec + 1e-9 * (double)t.tv_nsec;
-}
-
-static int ascending(const void *a, const void *b)
-{
-    double x = *(const double *)a, y = *(const double *)b;
-    return (x > y) - (x < y);
-}
-
 int main(int count, char **words)
 {
     static void (*const runs[4])(void) = { proved_pressure, double_pressure, proved_answer, double_answer };
     static const char *const names[4] = { "pressure alone, proved", "pressure alone, plain doubles", "whole answer, proved", "whole answer, plain doubles" };
     int rounds = count > 1 ? atoi(words[1]) : 9;
-    double *times[4];
-    size_t room = 0, size = 0;
-    char *line = NULL;
-    ssize_t length;
-    while ((length = getline(&line, &size, stdin)) == LINE + 1) {
-        if (cases == room)
-            frames = realloc(frames, (room = 2 * room + 1000) * sizeof *frames);
-        cases += (size_t)spell((const uint8_t *)line, frames[cases]);
-    }
+    double medians[4];
+    cases = read_frames(&frames);
     if (cases == 0 || rounds < 1)
         return 2;
     prepare(53);
     compare();
-    for (int i = 0; i < 4; i++)
-        times[i] = malloc((size_t)rounds * sizeof **times);
-    for (int turn = -1; turn < rounds; turn++) /* the first turn warms the caches */
-        for (int i = 0; i < 4; i++) {
-            double start = now();
-            runs[i]();
-            if (turn >= 0)
-                times[i][turn] = now() - start;
-        }
-    for (int i = 0; i < 4; i++)
-        qsort(times[i], (size_t)rounds, sizeof **times, ascending);
+    time_in_turn(runs, 4, rounds, medians);
     printf("without text, one call a case (check sum %llu)\n", (unsigned long long)sum);
-    for (int i = 0; i < 4; i++) {
-        double spent = times[i][rounds / 2], plain = times[i | 1][rounds / 2];
-        printf("%-30s %10.0f ns/case %8.2f\n", names[i], 1e9 * spent / (double)cases, spent / plain);
-    }
+    for (int i = 0; i < 4; i++)
+        printf("%-30s %10.0f ns/case %8.2f\n", names[i], 1e9 * medians[i] / (double)cases, medians[i] / medians[i | 1]);
     return 0;
 }

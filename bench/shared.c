@@ -78,6 +78,17 @@ static inline uint32_t two(const uint8_t *b) { return (uint32_t)b[0] << 8 | b[1]
 static inline uint32_t four(const uint8_t *b) { return two(b) << 16 | two(b + 2); }
 static inline int outside(uint32_t x, uint32_t least, uint32_t most) { return x < least || x > most; }
 
+int move_receptor(struct cloud *c, uint32_t distance)
+{
+    /* The cube of Rx is r^3 P0/E with r in metres; in millionths, r^3 P0 parts/joules with r in centimetres. */
+    wide cube = (wide)((uint64_t)distance * distance * distance) * ((uint64_t)AIR * c->parts * (c->aerosol ? 4 : 1));
+    wide joules = (wide)c->joules * (c->aerosol ? 3 : 1);
+    c->distance = distance;
+    c->near = cube < joules * (c->state == 0 ? 8000 : 15625);
+    c->under = cube < joules * 39304;
+    return cube > joules * 13824000000u ? 7 : 0;
+}
+
 int decide_frame(const uint8_t frame[FRAME], struct cloud *c)
 {
     unsigned substance = frame[0], state = frame[1], placement = frame[2], surroundings = frame[3];
@@ -105,14 +116,8 @@ int decide_frame(const uint8_t frame[FRAME], struct cloud *c)
         c->parts = mean;
     }
     c->mass = mass;
-    c->distance = distance;
     c->body = body;
-    /* The cube of Rx is r^3 P0/E with r in metres; in millionths, r^3 P0 parts/joules with r in centimetres. */
-    wide cube = (wide)((uint64_t)distance * distance * distance) * ((uint64_t)AIR * c->parts * (c->aerosol ? 4 : 1));
-    wide joules = (wide)c->joules * (c->aerosol ? 3 : 1);
-    c->near = cube < joules * (state == 0 ? 8000 : 15625);
-    c->under = cube < joules * 39304;
-    return cube > joules * 13824000000u ? 7 : 0;
+    return move_receptor(c, distance);
 }
 
 int decide_line(const uint8_t *line, size_t length, struct cloud *c)

@@ -38,7 +38,10 @@ struct figures {
 /* The bytes that 44 characters spell; 0 where one of them is no hexadecimal digit. */
 int spell(const uint8_t *line, uint8_t frame[FRAME]);
 
-/* The refusal number of a frame of 22 bytes, or 0 and its cloud. */
+/* Puts a cloud's receptor at a distance from 1 to 1,000,000 cm and compares Rx there: 7 where it is beyond, else 0. */
+int move_receptor(struct cloud *c, uint32_t distance);
+
+/* The refusal number of a frame of 22 bytes, or 0 and its cloud; after refusal 7 there is a cloud too. */
 int decide_frame(const uint8_t frame[FRAME], struct cloud *c);
 
 /* The refusal number of a line, or 0 and its cloud. */

@@ -1,11 +1,12 @@
-/* Calls Yakepuhi from C: a case as a line and as a frame's bytes, its overpressure and its impulse alone, a wrong line and an area that is too short, each printed in readable form. */
+/* Calls Yakepuhi from C: a case as a line and as a frame's bytes, its overpressure and its impulse alone, its rings,
+   a wrong line and an area that is too short, each printed in readable form. */
 #include "yakepuhi.h"
 
 #include <inttypes.h>
 #include <stdio.h>
 #include <string.h>
 
-static const char *const words[9] = { "accepted", "length", "digit", "substance", "setting", "quantity", "heat", "beyond", "space" };
+static const char *const words[12] = { "accepted", "length", "digit", "substance", "setting", "quantity", "heat", "beyond", "space", "threshold", "weak", "strong" };
 
 static uint32_t four(const uint8_t *b) { return (uint32_t)b[0] << 24 | (uint32_t)b[1] << 16 | (uint32_t)b[2] << 8 | b[3]; }
 static int32_t four_signed(const uint8_t *b) { return (int32_t)four(b); }
@@ -58,6 +59,19 @@ static void ask_frame(const char *title, const uint8_t *frame, size_t length)
     show(title, refusal, area);
 }
 
+/* The ring of a threshold, from the line and from the bytes; a refusal leaves both distances as they were. */
+static void ask_ring(const char *line, const uint8_t *frame, uint64_t threshold)
+{
+    uint64_t inner = MARK, outer = MARK, near = MARK, far = MARK;
+    uint64_t refusal = yakepuhi_ring_from_line((const uint8_t *)line, strlen(line), threshold, &inner, &outer);
+    int same = refusal == yakepuhi_ring_from_frame(frame, YAKEPUHI_FRAME, threshold, &near, &far) && inner == near && outer == far;
+    printf("its ring of %" PRIu64 " Pa: %s, from its bytes %s\n", threshold, words[refusal], same ? "the same" : "another");
+    if (refusal == 0)
+        printf("  %" PRIu64 " to %" PRIu64 " cm\n", inner, outer);
+    else
+        printf("  %d numbers kept\n", (inner == MARK) + (outer == MARK));
+}
+
 int main(void)
 {
     /* 8 t of propane on the ground, 100 m away */
@@ -70,6 +84,10 @@ int main(void)
     printf("its overpressure alone: %s\n  %" PRIu64 " to %" PRIu64 " Pa\n", words[refusal], lower, upper);
     refusal = yakepuhi_impulse(frame, sizeof frame, &lower, &upper);
     printf("its impulse alone: %s\n  %" PRIu64 " to %" PRIu64 " Pa s\n", words[refusal], lower, upper);
+    ask_ring(line, frame, 28000);
+    ask_ring(line, frame, 5000);
+    ask_ring(line, frame, YAKEPUHI_THRESHOLD);
+    ask_ring(line, frame, YAKEPUHI_THRESHOLD + 1);
     ask("a wrong line", "11000104007A1200057803020000B54000002710004G", YAKEPUHI_ANSWER);
     ask("a short area", line, YAKEPUHI_ANSWER - 1);
     return 0;

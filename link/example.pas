@@ -1,4 +1,5 @@
-{ Calls Yakepuhi from Free Pascal: a case as a line and as a frame's bytes, its overpressure and its impulse alone, a wrong line and an area that is too short, each printed in readable form. }
+{ Calls Yakepuhi from Free Pascal: a case as a line and as a frame's bytes, its overpressure and its impulse alone, its rings,
+  a wrong line and an area that is too short, each printed in readable form. }
 program example;
 
 {$mode objfpc}{$H+}
@@ -8,7 +9,8 @@ program example;
 const
   AnswerBytes = 77;
   Mark = $EE;
-  Words: array[0..8] of string = ('accepted', 'length', 'digit', 'substance', 'setting', 'quantity', 'heat', 'beyond', 'space');
+  GreatestThreshold = 1823400;
+  Words: array[0..11] of string = ('accepted', 'length', 'digit', 'substance', 'setting', 'quantity', 'heat', 'beyond', 'space', 'threshold', 'weak', 'strong');
   { 8 t of propane on the ground, 100 m away }
   Line = '11000104007A1200057803020000B540000027100046';
   Frame: array[0..21] of Byte = ($11, 0, 1, 4, 0, $7A, $12, 0, 5, $78, 3, 2, 0, 0, $B5, $40, 0, 0, $27, $10, 0, $46);
@@ -21,6 +23,8 @@ function yakepuhi_from_line(line: PByte; lineLength: SizeUInt; area: PByte; area
 function yakepuhi_from_frame(frame: PByte; frameLength: SizeUInt; area: PByte; areaLength: SizeUInt): QWord; cdecl; external;
 function yakepuhi_overpressure(frame: PByte; frameLength: SizeUInt; lower, upper: PQWord): QWord; cdecl; external;
 function yakepuhi_impulse(frame: PByte; frameLength: SizeUInt; lower, upper: PQWord): QWord; cdecl; external;
+function yakepuhi_ring_from_frame(frame: PByte; frameLength: SizeUInt; threshold: QWord; inner, outer: PQWord): QWord; cdecl; external;
+function yakepuhi_ring_from_line(line: PByte; lineLength: SizeUInt; threshold: QWord; inner, outer: PQWord): QWord; cdecl; external;
 
 function Two(const a: TArea; at: Integer): LongWord;
 begin
@@ -98,6 +102,26 @@ begin
   Show(title, refusal, area);
 end;
 
+{ The ring of a threshold, from the line and from the bytes; a refusal leaves both distances as they were. }
+procedure AskRing(const text: string; bytes: PByte; count: SizeUInt; threshold: QWord);
+var
+  inner, outer, near, far, refusal: QWord;
+  other: string;
+begin
+  inner := Mark;
+  outer := Mark;
+  near := Mark;
+  far := Mark;
+  other := 'another';
+  refusal := yakepuhi_ring_from_line(PByte(PChar(text)), Length(text), threshold, @inner, @outer);
+  if (yakepuhi_ring_from_frame(bytes, count, threshold, @near, @far) = refusal) and (inner = near) and (outer = far) then other := 'the same';
+  WriteLn('its ring of ', threshold, ' Pa: ', Words[refusal], ', from its bytes ', other);
+  if refusal = 0 then
+    WriteLn('  ', inner, ' to ', outer, ' cm')
+  else
+    WriteLn('  ', Ord(inner = Mark) + Ord(outer = Mark), ' numbers kept');
+end;
+
 var
   lower, upper, refusal: QWord;
 begin
@@ -111,6 +135,10 @@ begin
   refusal := yakepuhi_impulse(@Frame[0], SizeOf(Frame), @lower, @upper);
   WriteLn('its impulse alone: ', Words[refusal]);
   WriteLn('  ', lower, ' to ', upper, ' Pa s');
+  AskRing(Line, @Frame[0], SizeOf(Frame), 28000);
+  AskRing(Line, @Frame[0], SizeOf(Frame), 5000);
+  AskRing(Line, @Frame[0], SizeOf(Frame), GreatestThreshold);
+  AskRing(Line, @Frame[0], SizeOf(Frame), GreatestThreshold + 1);
   Ask('a wrong line', Copy(Line, 1, 43) + 'G', AnswerBytes);
   Ask('a short area', Line, AnswerBytes - 1);
 end.

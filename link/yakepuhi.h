@@ -5,7 +5,7 @@
    - no two of a call's pointers reach the same byte, and no other thread writes what they reach during the call.
 
    Every function gives 0 for an accepted case, else the number of the first refusal that applies:
-   1 length, 2 digit, 3 substance, 4 setting, 5 quantity, 6 heat, 7 beyond, 8 space.
+   1 length, 2 digit, 3 substance, 4 setting, 5 quantity, 6 heat, 7 beyond, 8 space; for a ring 1 to 6, then 9 threshold, 10 weak, 11 strong.
    After a refusal everything that was lent for writing has the bytes that it had.
 
    They use no heap, no file and no global state, so any number of threads can call them at once. */
@@ -41,6 +41,21 @@ uint64_t yakepuhi_overpressure(const uint8_t *frame, size_t frame_length, uint64
 
 /* The same for the impulse alone, in whole Pa s. */
 uint64_t yakepuhi_impulse(const uint8_t *frame, size_t frame_length, uint64_t *lower, uint64_t *upper);
+
+/* The greatest threshold of a ring, Pa. */
+#define YAKEPUHI_THRESHOLD 1823400
+
+/* The ring of a threshold in whole pascals, 1 to 1,823,400, for a case given as the bytes of a frame; the frame's own distance must be
+   valid and is not used otherwise. Given, *inner and *outer are distances in cm, 1 <= *inner < *outer, both where the case is accepted:
+   at *inner the lower end of the overpressure reaches the threshold and one cm farther it does not; at *outer the upper end is below the
+   threshold and one cm nearer it is not. The ends are whole pascals that hold the exact value within the width rule; where other such ends
+   would give another ring, or 10 or 11, what is given is right for one choice of them, the same at all four distances.
+   9: the threshold is outside its limits. 10, weak: the lower end at 1 cm is below the threshold. 11, strong: the upper end at the farthest
+   accepted distance is not below it. It never gives 2, 7 or 8. */
+uint64_t yakepuhi_ring_from_frame(const uint8_t *frame, size_t frame_length, uint64_t threshold, uint64_t *inner, uint64_t *outer);
+
+/* The same for a case given as a line; it also gives 2. */
+uint64_t yakepuhi_ring_from_line(const uint8_t *line, size_t line_length, uint64_t threshold, uint64_t *inner, uint64_t *outer);
 
 #ifdef __cplusplus
 }

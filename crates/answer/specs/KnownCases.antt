@@ -10,7 +10,8 @@ use Rattle.guidance.specs.Substances.{classOf}
 use Rattle.guidance.specs.Clouds.{rangeOf, energy}
 use Rattle.guidance.specs.Distances.{nearer, cube02}
 use Rattle.guidance.specs.Waves.{standardAir, reducedPressure}
-use Rattle.frame.specs.declared.Refusal.the-variants.{Substance, Heat, Beyond}
+use Rattle.refusals.specs.declared.Fault.the-variants.{Substance, Heat}
+use Rattle.frame.specs.declared.Refusal.the-variants.{Faulty, Beyond}
 use Rattle.frame.specs.declared.Verdict.the-variants.{Accepted, Refused}
 use Rattle.frame.specs.Bytes.{fieldsOf}
 use Rattle.frame.specs.Verdicts.{frameVerdict}
@@ -48,9 +49,9 @@ pub record KnownCases : Type 0 where
   pub class-1-in-1 : (c : Case) → classOf (c .substance) ≡ 1 → c .surroundings ≡ 1 → rangeOf c ≡ 1
   pub class-1-in-2 : (c : Case) → classOf (c .substance) ≡ 1 → c .surroundings ≡ 2 → rangeOf c ≡ 1
   pub class-4-in-4 : (c : Case) → classOf (c .substance) ≡ 4 → c .surroundings ≡ 4 → rangeOf c ≡ 6
-  pub substance-25-heat-0 : frameVerdict (frameOf 25 0 1 0 100) 77 ≡ Refused Heat
-  pub substance-47-heat-0 : frameVerdict (frameOf 47 0 1 0 100) 77 ≡ Refused Heat
-  pub heat-1 : (frame : List ℕ) (room : ℕ) → fieldsOf frame .heat ≡ 1 → frameVerdict frame room ≡ Refused Heat → ⊥
-  pub substance-76-surroundings-5 : frameVerdict (frameOf 76 0 5 1013 100) 77 ≡ Refused Substance
+  pub substance-25-heat-0 : frameVerdict (frameOf 25 0 1 0 100) 77 ≡ Refused (Faulty Heat)
+  pub substance-47-heat-0 : frameVerdict (frameOf 47 0 1 0 100) 77 ≡ Refused (Faulty Heat)
+  pub heat-1 : (frame : List ℕ) (room : ℕ) → fieldsOf frame .heat ≡ 1 → frameVerdict frame room ≡ Refused (Faulty Heat) → ⊥
+  pub substance-76-surroundings-5 : frameVerdict (frameOf 76 0 5 1013 100) 77 ≡ Refused (Faulty Substance)
   pub propane-energy : energy (fieldsOf propane) ≈ whole 408320000000
   pub propane-range : rangeOf (fieldsOf propane) ≡ 4

@@ -1,4 +1,6 @@
 pub mod Refusals
 pub mod Bytes
+pub mod Tests
 pub mod Verdicts
+pub mod Checks
 pub mod laws

@@ -1,5 +1,6 @@
 -- Laws of the definitions.
 pub mod Limits
-pub mod Tests
+pub mod Fields
+pub mod Checks
 pub mod Verdicts
 pub mod Examples

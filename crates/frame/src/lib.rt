@@ -1,26 +1,30 @@
 // The case frame and the line that spells it: fields, refusals in their order, the verdict.
 ghost use mathlib.Core.Path.{_≡_};
 ghost use mathlib.Core.Bool.{_||_};
-ghost use Prim.Native.Nat.{_+_, _-_, _<_};
-ghost use lib.ListN.{length, replicate};
-ghost use mathlib.Core.List.{_++_};
+ghost use Prim.Native.Nat.{_+_, _<_};
+ghost use lib.ListN.{length};
+ghost use Rattle.guidance.specs.CloudWords.{Heated};
+ghost use Rattle.refusals.specs.Faults.{filled};
 ghost use Rattle.frame.specs.Refusals.{number, code, word};
 ghost use Rattle.frame.specs.Bytes.{twoAt, fourAt, fieldsOf};
-ghost use Rattle.frame.specs.laws.Tests.{caseVerdict};
-ghost use Rattle.frame.specs.Verdicts.{outside, settingOutside, quantityOutside, heatMissing, frameVerdict, lineVerdict};
+ghost use Rattle.frame.specs.Tests.{outside, settingOutside, quantityOutside, heatMissing};
+ghost use Rattle.frame.specs.Verdicts.{frameVerdict, lineVerdict};
+ghost use Rattle.frame.specs.Checks.{frameChecked, lineChecked, HeatedIfSound, caseChecked, placed, judged};
 use guidance::Case;
+use refusals::Fault;
 
 // The bytes of an answer frame.
 pub const ANSWER: usize = 77;
 
-// Why a case is refused, in the order of the tests.
+// What tests 1 to 6 make of a case.
+pub enum Checked {
+    Sound(Case),
+    Unsound(Fault),
+}
+
+// Why a case has no answer: a fault of its own, then tests 7 and 8.
 pub enum Refusal {
-    Length,
-    Digit,
-    Substance,
-    Setting,
-    Quantity,
-    Heat,
+    Faulty(Fault),
     Beyond,
     Space,
 }
@@ -35,12 +39,7 @@ pub fn number_of(r: Refusal) -> u64
     ensures { λ n. ⌜ n ≡ number r ⌝ }
 {
     match r {
-        Refusal::Length => 1,
-        Refusal::Digit => 2,
-        Refusal::Substance => 3,
-        Refusal::Setting => 4,
-        Refusal::Quantity => 5,
-        Refusal::Heat => 6,
+        Refusal::Faulty(f) => refusals::number_of(f),
         Refusal::Beyond => 7,
         Refusal::Space => 8,
     }
@@ -48,28 +47,10 @@ pub fn number_of(r: Refusal) -> u64
 
 // The refusal's word, filled with zeros to 12 bytes.
 pub fn word_of(r: Refusal) -> [u8; 12]
-    ensures { λ w. ⌜ w ≡ word r ++ replicate (12 - length (word r)) 0 ⌝ }
+    ensures { λ w. ⌜ w ≡ filled (word r) ⌝ }
 {
     match r {
-        Refusal::Length => [b'l', b'e', b'n', b'g', b't', b'h', 0, 0, 0, 0, 0, 0],
-        Refusal::Digit => [b'd', b'i', b'g', b'i', b't', 0, 0, 0, 0, 0, 0, 0],
-        Refusal::Substance => [
-            b's',
-            b'u',
-            b'b',
-            b's',
-            b't',
-            b'a',
-            b'n',
-            b'c',
-            b'e',
-            0,
-            0,
-            0,
-        ],
-        Refusal::Setting => [b's', b'e', b't', b't', b'i', b'n', b'g', 0, 0, 0, 0, 0],
-        Refusal::Quantity => [b'q', b'u', b'a', b'n', b't', b'i', b't', b'y', 0, 0, 0, 0],
-        Refusal::Heat => [b'h', b'e', b'a', b't', 0, 0, 0, 0, 0, 0, 0, 0],
+        Refusal::Faulty(f) => refusals::word_of(f),
         Refusal::Beyond => [b'b', b'e', b'y', b'o', b'n', b'd', 0, 0, 0, 0, 0, 0],
         Refusal::Space => [b's', b'p', b'a', b'c', b'e', 0, 0, 0, 0, 0, 0, 0],
     }
@@ -129,7 +110,8 @@ fn either(a: bool, b: bool) -> bool
     if a { true } else { b }
 }
 
-fn is_outside(least: u64, most: u64, x: u64) -> bool
+// Whether x is none of the values least to most.
+pub fn is_outside(least: u64, most: u64, x: u64) -> bool
     ensures { λ r. ⌜ r ≡ outside least most x ⌝ }
 {
     if least <= x { !(x <= most) } else { true }
@@ -168,22 +150,57 @@ fn heat_missing(c: Case) -> bool
     guidance::heat_of(c) == 0
 }
 
-// Tests 3 to 8.
-fn judge(c: Case, room: usize) -> Verdict
-    ensures { λ r. ⌜ r ≡ caseVerdict c room ⌝ }
+// Tests 3 to 6.
+fn check(c: Case) -> Checked
+    ensures { λ r. ⌜ r ≡ caseChecked c ⌝ }
 {
     if is_outside(0, 75, c.substance) {
-        return Verdict::Refused(Refusal::Substance);
+        return Checked::Unsound(Fault::Substance);
     }
     if setting_outside(c) {
-        return Verdict::Refused(Refusal::Setting);
+        return Checked::Unsound(Fault::Setting);
     }
     if quantity_outside(c) {
-        return Verdict::Refused(Refusal::Quantity);
+        return Checked::Unsound(Fault::Quantity);
     }
     if heat_missing(c) {
-        return Verdict::Refused(Refusal::Heat);
+        return Checked::Unsound(Fault::Heat);
     }
+    Checked::Sound(c)
+}
+
+// Tests 1 to 6 of a frame given as bytes.
+pub fn check_frame(frame: &[u8]) -> Checked
+    ensures { λ r. ⌜ r ≡ frameChecked (now (frame .entry)) ⌝ }
+{
+    if frame.len() == 22 {
+        check(fields_of(frame))
+    } else {
+        Checked::Unsound(Fault::Length)
+    }
+}
+
+// Tests 1 to 6 of a line: once it has 44 digits, those of the frame that it spells.
+pub fn check_line(line: &[u8]) -> Checked
+    ensures { λ r. ⌜ r ≡ lineChecked (now (line .entry)) ⌝ }
+{
+    if line.len() == 44 {
+        let mut frame = [0u8; 22];
+        if hexadecimals::spell(line, &mut frame) {
+            check_frame(&frame)
+        } else {
+            Checked::Unsound(Fault::Digit)
+        }
+    } else {
+        Checked::Unsound(Fault::Length)
+    }
+}
+
+// Tests 7 and 8.
+fn place(c: Case, room: usize) -> Verdict
+    requires { ⌜ Heated c ⌝ }
+    ensures { λ r. ⌜ r ≡ placed c room ⌝ }
+{
     let cloud = guidance::cloud_of(c);
     if guidance::is_beyond(c, cloud, guidance::STANDARD_AIR) {
         return Verdict::Refused(Refusal::Beyond);
@@ -194,29 +211,28 @@ fn judge(c: Case, room: usize) -> Verdict
     Verdict::Accepted(c)
 }
 
+fn judge(s: Checked, room: usize) -> Verdict
+    requires { ⌜ HeatedIfSound s ⌝ }
+    ensures { λ r. ⌜ r ≡ judged s room ⌝ }
+{
+    match s {
+        Checked::Sound(c) => place(c, room),
+        Checked::Unsound(f) => Verdict::Refused(Refusal::Faulty(f)),
+    }
+}
+
 // The verdict on a frame given as bytes, with `room` bytes for its answer.
 pub fn decide_frame(frame: &[u8], room: usize) -> Verdict
     ensures { λ r. ⌜ r ≡ frameVerdict (now (frame .entry)) room ⌝ }
 {
-    if frame.len() == 22 {
-        judge(fields_of(frame), room)
-    } else {
-        Verdict::Refused(Refusal::Length)
-    }
+    let s = check_frame(frame);
+    judge(s, room)
 }
 
-// The verdict on a line, with `room` bytes for its answer: once it has 44 digits, that on the frame that it spells.
+// The verdict on a line, with `room` bytes for its answer.
 pub fn decide_line(line: &[u8], room: usize) -> Verdict
     ensures { λ r. ⌜ r ≡ lineVerdict (now (line .entry)) room ⌝ }
 {
-    if line.len() == 44 {
-        let mut frame = [0u8; 22];
-        if hexadecimals::spell(line, &mut frame) {
-            decide_frame(&frame, room)
-        } else {
-            Verdict::Refused(Refusal::Digit)
-        }
-    } else {
-        Verdict::Refused(Refusal::Length)
-    }
+    let s = check_line(line);
+    judge(s, room)
 }

@@ -1,4 +1,4 @@
-// The entries for C and other languages: a case answered into a lent area, and its overpressure or its impulse alone.
+// The entries for C and other languages: a case answered into a lent area, its overpressure or its impulse alone, and the ring of a threshold.
 ghost use lib.ListN.{length};
 ghost use Rattle.frame.specs.Verdicts.{frameVerdict, lineVerdict};
 ghost use Rattle.linked.specs.Codes.{Entered, FigureAnswered};
@@ -9,6 +9,8 @@ ghost use Rattle.guidance.specs.Cases.{Accepted, Air};
 use frame::Verdict;
 use guidance::Case;
 use layout::Ends;
+
+pub mod rings;
 
 // A case given as a frame's bytes.
 #[no_mangle]

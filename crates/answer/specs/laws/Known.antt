@@ -14,7 +14,9 @@ use Rattle.guidance.specs.Distances.{less, metres, cubed, nearer, farther, cube
 use Rattle.guidance.specs.Waves.{standardAir, reducedPressure}
 use Rattle.guidance.specs.laws.Known.{FirstIs, point-holds, gas-near-field, heterogeneous-reduced, heterogeneous-pressure, range-of}
 use Rattle.frame.specs.Bytes.{fieldsOf}
-use Rattle.frame.specs.Verdicts.{settingOutside, quantityOutside, heatMissing, tests, firstOf, frameVerdict}
+use Rattle.refusals.specs.Order.{firstOf, held}
+use Rattle.frame.specs.Tests.{settingOutside, quantityOutside, heatMissing, caseTests, frameTests}
+use Rattle.frame.specs.Verdicts.{lastTests, frameVerdict}
 use Rattle.frame.specs.laws.Verdicts.{heat-given}
 use Rattle.answer.specs.Answer.{wholeZ, times, ExactBetween, Answer}
 use Rattle.answer.specs.laws.Between.{times-mono, between}
@@ -42,7 +44,7 @@ unfolding fieldsOf wholeZ ofRatio _⊠_
 reduced = between 1000 (point-holds heterogeneous-reduced) (record { cross = omega arith }) (record { cross = omega arith })
 
 pub known : KnownCases
-unfolding fieldsOf nearer farther less cubed metres cube02 cube24 power whole _⊗_ energy groundFactor leanFactor leanBy decLe aerosolFactor heatOf betas betaOf rangeOf classOf atLeast1 frameVerdict firstOf tests settingOutside quantityOutside heatMissing
+unfolding fieldsOf nearer farther less cubed metres cube02 cube24 power whole _⊗_ energy groundFactor leanFactor leanBy decLe aerosolFactor heatOf betas betaOf rangeOf classOf atLeast1 frameVerdict firstOf held frameTests caseTests lastTests settingOutside quantityOutside heatMissing
 known =
     record {
       q-range = refl;

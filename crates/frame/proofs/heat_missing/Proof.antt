@@ -2,7 +2,7 @@
 use Prim.Native.Nat.{ℕ}
 use mathlib.Core.Path.{ap, sym, _∙_}
 use lib.Dec.{eqb}
-use Rattle.frame.specs.laws.Tests.{heat-missing}
+use Rattle.frame.specs.laws.Fields.{heat-missing}
 use borrow.Author.Needs.{needs}
 use Rattle.frame.proofs.heat_missing.Statement.{statement}
 use Rattle.frame.proofs.heat_missing.Tie as tie

@@ -1,7 +1,7 @@
 -- `frame::quantity_outside` meets its contract: one of six answers. Assumes nothing.
 use mathlib.Core.Path.{_∙_}
 use Rattle.frame.specs.laws.Limits.{joined}
-use Rattle.frame.specs.Verdicts.{quantityOutside}
+use Rattle.frame.specs.Tests.{quantityOutside}
 use borrow.Author.Needs.{needs}
 use Rattle.frame.proofs.quantity_outside.Statement.{statement}
 use Rattle.frame.proofs.quantity_outside.Tie as tie

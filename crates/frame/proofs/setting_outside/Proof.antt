@@ -1,7 +1,7 @@
 -- `frame::setting_outside` meets its contract: one of three answers. Assumes nothing.
 use mathlib.Core.Path.{_∙_}
 use Rattle.frame.specs.laws.Limits.{joined}
-use Rattle.frame.specs.Verdicts.{settingOutside}
+use Rattle.frame.specs.Tests.{settingOutside}
 use borrow.Author.Needs.{needs}
 use Rattle.frame.proofs.setting_outside.Statement.{statement}
 use Rattle.frame.proofs.setting_outside.Tie as tie

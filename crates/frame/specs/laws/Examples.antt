@@ -9,11 +9,14 @@ use Rattle.guidance.specs.declared.Case.{Case}
 use Rattle.guidance.specs.Substances.{betas, betaOf, classOf, heatOf}
 use Rattle.guidance.specs.Clouds.{atLeast1, rangeOf, groundFactor, leanBy, leanFactor, aerosolFactor, energy}
 use Rattle.guidance.specs.Distances.{less, metres, cubed, farther, cube24}
-use Rattle.frame.specs.declared.Refusal.the-variants.{Length, Digit, Setting, Heat}
+use Rattle.refusals.specs.declared.Fault.the-variants.{Length, Digit, Setting, Heat}
+use Rattle.frame.specs.declared.Refusal.the-variants.{Faulty}
 use Rattle.frame.specs.declared.Verdict.the-variants.{Accepted, Refused}
 use Rattle.frame.specs.Bytes.{fieldsOf}
 use Rattle.hexadecimals.specs.Digits.{digitOf, allDigits, bytesOf}
-use Rattle.frame.specs.Verdicts.{settingOutside, quantityOutside, heatMissing, tests, firstOf, frameVerdict, lineVerdict}
+use Rattle.refusals.specs.Order.{firstOf, held}
+use Rattle.frame.specs.Tests.{settingOutside, quantityOutside, heatMissing, caseTests, frameTests, lineTests}
+use Rattle.frame.specs.Verdicts.{lastTests, frameVerdict, lineVerdict}
 
 -- 00000001000000640001000100000000000000640046
 abbrev pub thirdLine : List ℕ
@@ -60,15 +63,15 @@ abbrev pub twoFaults : List ℕ
 twoFaults = 0 ∷ 0 ∷ 0 ∷ 5 ∷ 0 ∷ 0 ∷ 0 ∷ 100 ∷ 0 ∷ 1 ∷ 0 ∷ 1 ∷ 0 ∷ 0 ∷ 3 ∷ 245 ∷ 0 ∷ 0 ∷ 0 ∷ 0 ∷ 0 ∷ 70 ∷ []
 
 pub record Examples : Type 0 where
-  pub empty-line : lineVerdict [] 77 ≡ Refused Length
-  pub letters-G : lineVerdict (replicate 44 71) 77 ≡ Refused Digit
-  pub third-line : lineVerdict thirdLine 77 ≡ Refused Heat
+  pub empty-line : lineVerdict [] 77 ≡ Refused (Faulty Length)
+  pub letters-G : lineVerdict (replicate 44 71) 77 ≡ Refused (Faulty Digit)
+  pub third-line : lineVerdict thirdLine 77 ≡ Refused (Faulty Heat)
   pub propane-line : lineVerdict propaneLine 77 ≡ Accepted propane
   pub propane-small : lineVerdict propaneSmall 77 ≡ Accepted propane
-  pub setting-first : frameVerdict twoFaults 77 ≡ Refused Setting
+  pub setting-first : frameVerdict twoFaults 77 ≡ Refused (Faulty Setting)
 
 pub examples : Examples
-unfolding frameVerdict lineVerdict firstOf tests settingOutside quantityOutside heatMissing fieldsOf digitOf allDigits bytesOf farther less cubed metres cube24 power whole _⊗_ energy groundFactor leanFactor leanBy decLe aerosolFactor heatOf betas betaOf rangeOf classOf atLeast1
+unfolding frameVerdict lineVerdict firstOf held frameTests lineTests caseTests lastTests settingOutside quantityOutside heatMissing fieldsOf digitOf allDigits bytesOf farther less cubed metres cube24 power whole _⊗_ energy groundFactor leanFactor leanBy decLe aerosolFactor heatOf betas betaOf rangeOf classOf atLeast1
 examples =
     record {
       empty-line = refl;

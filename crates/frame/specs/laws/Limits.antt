@@ -1,15 +1,10 @@
 -- Laws of the test that a number lies within its values. Assumes nothing.
 use Prim.Native.Nat.{ℕ, _≤_}
-use mathlib.Core.Path.{_≡_, refl, ap, _∙_}
-use mathlib.Core.Bool.{Bool, true, false, true≢false, _||_}
+use mathlib.Core.Path.{_≡_, ap, _∙_}
+use mathlib.Core.Bool.{Bool, false, _||_}
 use borrow.Author.Tests.{not-false}
 use Rattle.hexadecimals.specs.laws.Within.{within-true}
-use Rattle.frame.specs.Verdicts.{outside}
-
--- neither part of a disjunction that fails
-pub neither : (a b : Bool) → (a || b) ≡ false → (a ≡ false) × (b ≡ false)
-neither false b h = (refl, h)
-neither true b h = absurd (true≢false h)
+use Rattle.frame.specs.Tests.{outside}
 
 -- the answer of `||` over equal answers
 pub joined : {a b c d : Bool} → a ≡ b → c ≡ d → (a || c) ≡ (b || d)

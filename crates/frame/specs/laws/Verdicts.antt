@@ -1,64 +1,62 @@
 -- Laws of the verdicts: when each is given, and what an accepted case satisfies. Assumes nothing.
 use Prim.Native.Nat.{ℕ, _≤_, _<_}
 use mathlib.Core.Path.{_≡_, refl, ap, sym, _∙_}
-use mathlib.Core.Bool.{Bool, true, false, true≢false, not, _&&_, _||_, and-false}
-use mathlib.Core.List.{List, [], _∷_}
+use mathlib.Core.Bool.{true, false}
+use mathlib.Core.List.{List, _++_}
+use mathlib.Core.Option.{Option, none, some}
 use native.Mathlib.Omega.{arith}
 use lib.ListN.{length}
-use lib.Dec.{eqb, ltb}
-use borrow.Author.Tests.{eq-eqb, ne-eqb, eqb-true, ltb-false, le-ltb, not-false}
+use lib.Dec.{eqb}
+use borrow.Author.Tests.{ne-eqb, eqb-true, ltb-false, le-ltb, not-false}
 use Rattle.guidance.specs.declared.Case.{Case}
 use Rattle.guidance.specs.Cases as cases
-use Rattle.guidance.specs.Distances.{farther, cube24}
+use Rattle.guidance.specs.CloudWords.{Heated}
 use Rattle.guidance.specs.Waves.{standardAir}
+use Rattle.refusals.specs.declared.Fault.{Fault}
+use Rattle.refusals.specs.declared.Fault.the-variants.{Length, Digit, Substance, Setting, Quantity, Heat}
 use Rattle.frame.specs.declared.Refusal.{Refusal}
-use Rattle.frame.specs.declared.Refusal.the-variants.{Length, Digit, Substance, Setting, Quantity, Heat, Beyond, Space}
+use Rattle.frame.specs.declared.Refusal.the-variants.{Faulty, Beyond, Space}
 use Rattle.frame.specs.declared.Verdict.the-variants.{Accepted, Refused}
 use Rattle.frame.specs.Refusals.{number}
 use Rattle.frame.specs.Bytes.{fieldsOf}
 use Rattle.hexadecimals.specs.Digits.{allDigits, bytesOf}
-use Rattle.frame.specs.Verdicts.{Test, _when_, outside, settingOutside, quantityOutside, heatMissing, answerLength, tests, firstOf, frameVerdict, lineVerdict}
-use Rattle.frame.specs.laws.Limits.{neither, joined}
-use Rattle.hexadecimals.specs.laws.Spelling.{length-bytesOf}
-use Rattle.frame.specs.laws.Tests.{caseVerdict, heated}
+use Rattle.refusals.specs.Order.{Test, firstOf, held}
+use Rattle.frame.specs.Tests.{heatMissing, caseTests, frameTests, lineTests}
+use Rattle.frame.specs.Verdicts.{answerLength, lastTests, verdictBy, frameVerdict, lineVerdict}
+use Rattle.frame.specs.Checks.{checkedBy, frameChecked, lineChecked, judged}
+use Rattle.refusals.specs.laws.Order.{orElse, first-held, same-held, found-held, neither-found, passed, applies, absent}
+use Rattle.frame.specs.laws.Checks as checks
 
--- by tests 1 and 2
+-- tests 7 and 8 decide where none of 1 to 6 applies
 
-pub frame-length : (frame : List ℕ) (room : ℕ) → (length frame ≡ 22 → ⊥) → frameVerdict frame room ≡ Refused Length
-unfolding frameVerdict firstOf tests
-frame-length frame room h = simp (ne-eqb (length frame) 22 h)
+module _ (ts : List (Test Fault)) (c : Case) (room : ℕ) where
+  behind : (o : Option Fault) → verdictBy (orElse Faulty o (firstOf (lastTests c room))) c ≡ judged (checkedBy o c) room
+  behind none = refl
+  behind (some f) = refl
 
-pub frame-case : (frame : List ℕ) (room : ℕ) → length frame ≡ 22 → frameVerdict frame room ≡ caseVerdict (fieldsOf frame) room
-unfolding frameVerdict firstOf tests
-frame-case frame room h = simp (eq-eqb (length frame) 22 h)
+  judged-by : verdictBy (firstOf (held Faulty ts ++ lastTests c room)) c ≡ judged (checkedBy (firstOf ts) c) room
+  judged-by = ap (λ (o : Option Refusal). verdictBy o c) (first-held Faulty ts (lastTests c room)) ∙ behind (firstOf ts)
 
-pub line-length : (line : List ℕ) (room : ℕ) → (length line ≡ 44 → ⊥) → lineVerdict line room ≡ Refused Length
-unfolding lineVerdict firstOf tests
-line-length line room h = simp (ne-eqb (length line) 44 h)
+pub frame-judged : (frame : List ℕ) (room : ℕ) → frameVerdict frame room ≡ judged (frameChecked frame) room
+unfolding frameVerdict frameChecked
+frame-judged frame room = judged-by (frameTests frame) (fieldsOf frame) room
 
-pub line-digit : (line : List ℕ) (room : ℕ) → length line ≡ 44 → allDigits line ≡ false → lineVerdict line room ≡ Refused Digit
-unfolding lineVerdict firstOf tests
-line-digit line room h d = simp (eq-eqb (length line) 44 h, d)
+pub line-judged : (line : List ℕ) (room : ℕ) → lineVerdict line room ≡ judged (lineChecked line) room
+unfolding lineVerdict lineChecked
+line-judged line room = judged-by (lineTests line) (fieldsOf (bytesOf line)) room
+
+pub line-length : (line : List ℕ) (room : ℕ) → (length line ≡ 44 → ⊥) → lineVerdict line room ≡ Refused (Faulty Length)
+unfolding lineVerdict
+line-length line room h =
+    let d = fieldsOf (bytesOf line) in
+    ap (λ (o : Option Refusal). verdictBy o d) (found-held Faulty (lineTests line) Length (lastTests d room) (checks.line-length line h))
 
 -- a line of 44 digits is judged as the frame that it spells
 pub line-frame : (line : List ℕ) (room : ℕ) → length line ≡ 44 → allDigits line ≡ true → lineVerdict line room ≡ frameVerdict (bytesOf line) room
-unfolding lineVerdict firstOf tests
+unfolding lineVerdict frameVerdict
 line-frame line room h d =
-    simp (eq-eqb (length line) 44 h, d) (sym (frame-case (bytesOf line) room (length-bytesOf 22 line h)))
-
--- whether a test of a refusal applies, wherever it stands in the list
-abbrev applies : Refusal → List Test → Bool
-applies r [] = false
-applies r ((q when b) ∷ later) = eqb (number q) (number r) && b || applies r later
-
--- an accepted case has passed every test
-none-applies : (ts : List Test) (d c : Case) → firstOf ts d ≡ Accepted c → ((r : Refusal) → applies r ts ≡ false) × (c ≡ d)
-unfolding firstOf
-none-applies [] d c h = (λ r. refl, cc)
-none-applies ((q when true) ∷ later) d c h = let z : _≡_ {A = ℕ} 0 1 = cc in absurd (omega arith)
-none-applies ((q when false) ∷ later) d c h =
-    let p = none-applies later d c h in
-    (λ r. joined (and-false (eqb (number q) (number r))) (p .0 r), p .1)
+    let c = fieldsOf (bytesOf line) in
+    ap (λ (o : Option Refusal). verdictBy o c) (same-held Faulty (lineTests line) (frameTests (bytesOf line)) (lastTests c room) (checks.line-frame line h d))
 
 -- what is known where a case d is given, c comes back accepted, and there is room
 pub record Taken (d c : Case) (room : ℕ) : Type 0 where
@@ -66,33 +64,42 @@ pub record Taken (d c : Case) (room : ℕ) : Type 0 where
   pub accepted : cases.Accepted standardAir c
   pub enough : answerLength ≤ room
 
+accepted-by : (o : Option Refusal) (d c : Case) → verdictBy o d ≡ Accepted c → (o ≡ none) × (c ≡ d)
+accepted-by none d c h = (refl, cc)
+accepted-by (some r) d c h = let z : _≡_ {A = ℕ} 0 1 = cc in absurd (omega arith)
+
+-- an accepted case has passed every test
+pub record Clear (ts : List (Test Fault)) (d c : Case) (room : ℕ) : Type 0 where
+  pub first : firstOf ts ≡ none
+  pub last : firstOf (lastTests d room) ≡ none
+  pub same : c ≡ d
+
+clear : (ts : List (Test Fault)) (d c : Case) (room : ℕ) → verdictBy (firstOf (held Faulty ts ++ lastTests d room)) d ≡ Accepted c → Clear ts d c room
+clear ts d c room h =
+    let a = accepted-by (firstOf (held Faulty ts ++ lastTests d room)) d c h in
+    let n = neither-found Faulty (firstOf ts) (firstOf (lastTests d room)) (sym (first-held Faulty ts (lastTests d room)) ∙ a .0) in
+    record { first = n .0; last = n .1; same = a .1 }
+
 -- by tests 3 to 8
-taken-by : (wrongLength noDigit : Bool) (d c : Case) (room : ℕ) → ((r : Refusal) → applies r (tests wrongLength noDigit d room) ≡ false) → c ≡ d → Taken d c room
-unfolding tests
-taken-by wrongLength noDigit d c room clear same =
-    let substance = neither (outside 0 75 (d .substance)) false (clear Substance) .0 in
-    let setting = neither (settingOutside d) false (clear Setting) .0 in
-    let quantity = neither (quantityOutside d) false (clear Quantity) .0 in
-    let heat = neither (heatMissing d) false (clear Heat) .0 in
-    let beyond = neither (farther cube24 standardAir d) false (clear Beyond) .0 in
-    let space = neither (ltb room answerLength) false (clear Space) .0 in
-    let w = heated d substance setting quantity heat in
-    let a : cases.Accepted standardAir d = record { fields = w .fields; heat = w .heat; within = beyond } in
-    record { same = same; accepted = rw same a; enough = ltb-false room answerLength space }
+taken-by : (d c : Case) (room : ℕ) → Heated d → firstOf (lastTests d room) ≡ none → c ≡ d → Taken d c room
+unfolding lastTests
+taken-by d c room w h same =
+    let p = passed (lastTests d room) h in
+    let a : cases.Accepted standardAir d = record { fields = w .fields; heat = w .heat; within = p .0 } in
+    record { same = same; accepted = rw same a; enough = ltb-false room answerLength (p .1 .0) }
 
 pub record FrameTaken (frame : List ℕ) (c : Case) (room : ℕ) : Type 0 where
   pub size : length frame ≡ 22
   pub taken : Taken (fieldsOf frame) c room
 
 pub frame-accepted : (frame : List ℕ) (c : Case) (room : ℕ) → frameVerdict frame room ≡ Accepted c → FrameTaken frame c room
-unfolding frameVerdict tests
+unfolding frameVerdict frameTests caseTests
 frame-accepted frame c room h =
-    let d = fieldsOf frame in
-    let wrongLength = not (eqb (length frame) 22) in
-    let p = none-applies (tests wrongLength false d room) d c h in
+    let k = clear (frameTests frame) (fieldsOf frame) c room h in
+    let p = passed (frameTests frame) (k .first) in
     record {
-      size = eqb-true (length frame) 22 (not-false (eqb (length frame) 22) (neither wrongLength false (p .0 Length) .0));
-      taken = taken-by wrongLength false d c room (p .0) (p .1);
+      size = eqb-true (length frame) 22 (not-false (eqb (length frame) 22) (p .0));
+      taken = taken-by (fieldsOf frame) c room (checks.heated-by _ _ (fieldsOf frame) (k .first)) (k .last) (k .same);
     }
 
 pub record LineTaken (line : List ℕ) (c : Case) (room : ℕ) : Type 0 where
@@ -101,55 +108,50 @@ pub record LineTaken (line : List ℕ) (c : Case) (room : ℕ) : Type 0 where
   pub taken : Taken (fieldsOf (bytesOf line)) c room
 
 pub line-accepted : (line : List ℕ) (c : Case) (room : ℕ) → lineVerdict line room ≡ Accepted c → LineTaken line c room
-unfolding lineVerdict tests
+unfolding lineVerdict lineTests caseTests
 line-accepted line c room h =
     let d = fieldsOf (bytesOf line) in
-    let wrongLength = not (eqb (length line) 44) in
-    let noDigit = not (allDigits line) in
-    let p = none-applies (tests wrongLength noDigit d room) d c h in
+    let k = clear (lineTests line) d c room h in
+    let p = passed (lineTests line) (k .first) in
     record {
-      size = eqb-true (length line) 44 (not-false (eqb (length line) 44) (neither wrongLength false (p .0 Length) .0));
-      digits = not-false (allDigits line) (neither noDigit false (p .0 Digit) .0);
-      taken = taken-by wrongLength noDigit d c room (p .0) (p .1);
+      size = eqb-true (length line) 44 (not-false (eqb (length line) 44) (p .0));
+      digits = not-false (allDigits line) (p .1 .0);
+      taken = taken-by d c room (checks.heated-by _ _ d (k .first)) (k .last) (k .same);
     }
 
 -- the numbers
+fault-between : (f : Fault) → (1 ≤ number (Faulty f)) × (number (Faulty f) ≤ 8)
+fault-between Length = (omega arith, omega arith)
+fault-between Digit = (omega arith, omega arith)
+fault-between Substance = (omega arith, omega arith)
+fault-between Setting = (omega arith, omega arith)
+fault-between Quantity = (omega arith, omega arith)
+fault-between Heat = (omega arith, omega arith)
+
 pub number-between : (r : Refusal) → (1 ≤ number r) × (number r ≤ 8)
-number-between Length = (omega arith, omega arith)
-number-between Digit = (omega arith, omega arith)
-number-between Substance = (omega arith, omega arith)
-number-between Setting = (omega arith, omega arith)
-number-between Quantity = (omega arith, omega arith)
-number-between Heat = (omega arith, omega arith)
+number-between (Faulty f) = fault-between f
 number-between Beyond = (omega arith, omega arith)
 number-between Space = (omega arith, omega arith)
 
 -- a refusal is given only where its test applies
-absent : (r : Refusal) (ts : List Test) (c : Case) → applies r ts ≡ false → firstOf ts c ≡ Refused r → ⊥
-unfolding firstOf
-absent r [] c a h = let z : _≡_ {A = ℕ} 0 1 = cc in omega arith
-absent r ((q when true) ∷ later) c a h =
-    let e : q ≡ r = cc in
-    let n = neither (eqb (number q) (number r) && true) (applies r later) a .0 in
-    let y : (eqb (number q) (number r) && true) ≡ true = simp (eq-eqb (number q) (number r) (ap number e)) in
-    true≢false (sym y ∙ n)
-absent r ((q when false) ∷ later) c a h = absent r later c (neither (eqb (number q) (number r) && false) (applies r later) a .1) h
+refused-by : (o : Option Refusal) (d : Case) (r : Refusal) → verdictBy o d ≡ Refused r → o ≡ some r
+refused-by none d r h = let z : _≡_ {A = ℕ} 0 1 = cc in absurd (omega arith)
+refused-by (some q) d r h = let e : q ≡ r = cc in ap {B = Option Refusal} some e
+
+not-refused : (r : Refusal) (ts : List (Test Refusal)) (d : Case) → applies number (number r) ts ≡ false → verdictBy (firstOf ts) d ≡ Refused r → ⊥
+not-refused r ts d a h = absent number r ts a (refused-by (firstOf ts) d r h)
 
 -- a frame given as bytes has no test 2
-pub frame-no-digit : (frame : List ℕ) (room : ℕ) → frameVerdict frame room ≡ Refused Digit → ⊥
-unfolding frameVerdict tests
-frame-no-digit frame room h = absent Digit (tests (not (eqb (length frame) 22)) false (fieldsOf frame) room) (fieldsOf frame) refl h
+pub frame-no-digit : (frame : List ℕ) (room : ℕ) → frameVerdict frame room ≡ Refused (Faulty Digit) → ⊥
+unfolding frameVerdict frameTests caseTests lastTests held
+frame-no-digit frame room h = not-refused (Faulty Digit) _ (fieldsOf frame) refl h
 
 -- with room for an answer no line has refusal 8
 pub line-no-space : (line : List ℕ) (room : ℕ) → answerLength ≤ room → lineVerdict line room ≡ Refused Space → ⊥
-unfolding lineVerdict tests
-line-no-space line room enough h =
-    let d = fieldsOf (bytesOf line) in
-    absent Space (tests (not (eqb (length line) 44)) (not (allDigits line)) d room) d (simp (le-ltb room answerLength enough)) h
+unfolding lineVerdict lineTests caseTests lastTests held
+line-no-space line room enough h = not-refused Space _ (fieldsOf (bytesOf line)) (simp (le-ltb room answerLength enough)) h
 
 -- a given heat is never missing
-pub heat-given : (frame : List ℕ) (room : ℕ) → 0 < fieldsOf frame .heat → frameVerdict frame room ≡ Refused Heat → ⊥
-unfolding frameVerdict tests heatMissing
-heat-given frame room given h =
-    let d = fieldsOf frame in
-    absent Heat (tests (not (eqb (length frame) 22)) false d room) d (simp (ne-eqb (d .heat) 0 (λ e. omega arith))) h
+pub heat-given : (frame : List ℕ) (room : ℕ) → 0 < fieldsOf frame .heat → frameVerdict frame room ≡ Refused (Faulty Heat) → ⊥
+unfolding frameVerdict frameTests caseTests lastTests held heatMissing
+heat-given frame room given h = not-refused (Faulty Heat) _ (fieldsOf frame) (simp (ne-eqb (fieldsOf frame .heat) 0 (λ e. omega arith))) h

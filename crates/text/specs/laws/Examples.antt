@@ -3,8 +3,9 @@ use Prim.Native.Nat.{ℕ}
 use mathlib.Core.Path.{_≡_, refl}
 use mathlib.Core.List.{List, [], _∷_, _++_}
 use lib.ListN.{replicate}
-use Rattle.frame.specs.declared.Refusal.the-variants.{Length, Digit, Heat}
+use Rattle.refusals.specs.declared.Fault.the-variants.{Length, Digit, Heat}
 use Rattle.frame.specs.declared.Refusal.{Refusal}
+use Rattle.frame.specs.declared.Refusal.the-variants.{Faulty}
 use Rattle.frame.specs.declared.Verdict.the-variants.{Refused}
 use Rattle.frame.specs.Refusals.{number}
 use Rattle.frame.specs.Verdicts.{lineVerdict}
@@ -61,4 +62,4 @@ three-records
     (linesOf (lf ∷ replicate 44 71 ++ (lf ∷ thirdLine)))
     (49 ∷ 32 ∷ 82 ∷ 49 ∷ lf ∷ 50 ∷ 32 ∷ 82 ∷ 50 ∷ lf ∷ 51 ∷ 32 ∷ 82 ∷ 54 ∷ lf ∷ [])
 unfolding linesOf ended left lastLine decimal places
-three-records = one (refused 1 Length (examples .empty-line)) (one (refused 2 Digit (examples .letters-G)) (one (refused 3 Heat (examples .third-line)) none))
+three-records = one (refused 1 (Faulty Length) (examples .empty-line)) (one (refused 2 (Faulty Digit) (examples .letters-G)) (one (refused 3 (Faulty Heat) (examples .third-line)) none))

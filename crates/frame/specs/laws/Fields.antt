@@ -1,4 +1,4 @@
--- Laws of the tests: what is known of a case that passes them. Assumes nothing.
+-- What is known of a case that passes tests 3 to 6. Assumes nothing.
 use Prim.Native.Nat.{ℕ, zero, suc, _*_}
 use mathlib.Core.Path.{_≡_, refl, sym, _∙_}
 use mathlib.Core.Bool.{false, _&&_, _||_}
@@ -9,13 +9,9 @@ use Rattle.guidance.specs.declared.Case.{Case}
 use Rattle.guidance.specs.Substances.{betaOf, heatOf}
 use Rattle.guidance.specs.Cases.{Fields}
 use Rattle.guidance.specs.CloudWords.{Heated}
-use Rattle.frame.specs.declared.Verdict.{Verdict}
-use Rattle.frame.specs.laws.Limits.{neither, inside}
-use Rattle.frame.specs.Verdicts.{outside, settingOutside, quantityOutside, heatMissing, tests, firstOf}
-
--- what tests 3 to 8 make of a case
-abbrev pub caseVerdict : Case → (room : ℕ) → Verdict
-caseVerdict c room = firstOf (tests false false c room) c
+use Rattle.refusals.specs.laws.Order.{neither}
+use Rattle.frame.specs.laws.Limits.{inside}
+use Rattle.frame.specs.Tests.{outside, settingOutside, quantityOutside, heatMissing}
 
 -- no heat is a heat of 0
 no-product : (n : ℕ) → eqb n 0 ≡ eqb (440 * n) 0

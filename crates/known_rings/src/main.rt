@@ -1,0 +1,65 @@
+// The test program of rings: each request of its input, a threshold and a line, answered from the line and from the frame that it spells.
+// Its stored output is that of a separate calculation.
+use libc::STDIN_FILENO;
+use libc::STDOUT_FILENO;
+use ring::Answer;
+
+fn print(text: &[u8]) {
+    io::write_all(STDOUT_FILENO, text);
+}
+
+fn print_number(n: u64) {
+    io::print_decimal(STDOUT_FILENO, n);
+}
+
+// A ring's distances, or R and the refusal's number.
+fn show_answer(a: Answer) {
+    match a {
+        Answer::Ring { inner, outer } => {
+            print_number(inner);
+            print(b"..");
+            print_number(outer);
+        }
+        Answer::Refused(r) => {
+            print(b"R");
+            print_number(ring::number_of(r));
+        }
+    }
+}
+
+fn show_frame(line: &[u8], threshold: u64) {
+    let mut frame = [0u8; 22];
+    if hexadecimals::spell(line, &mut frame) {
+        show_answer(ring::from_frame(&frame, threshold));
+    } else {
+        print(b"-");
+    }
+}
+
+fn show(number: u64, text: &[u8]) {
+    let threshold = scan::next_word(text, 0);
+    let from = threshold.next;
+    print_number(number);
+    print(b" ");
+    show_answer(ring::from_line(&text[from..], threshold.value));
+    print(b" ");
+    show_frame(&text[from..], threshold.value);
+    print(b"\n");
+}
+
+fn show_all(text: &[u8]) {
+    let mut number = 0;
+    let mut at = 0;
+    while at < text.len() {
+        let end = scan::line_end(text, at);
+        number = scan::sum(number, 1);
+        show(number, &text[at..end]);
+        at = end + 1;
+    }
+}
+
+fn main() {
+    let mut space = io::large_buffer();
+    let n = io::read_full(STDIN_FILENO, &mut space);
+    show_all(&space[..n]);
+}

@@ -1,0 +1,27 @@
+-- The numbers and words of a case's faults, which tests 1 to 6 find (document 01, "Refused cases").
+use Prim.Native.Nat.{ℕ, _-_}
+use mathlib.Core.List.{List, [], _∷_, _++_}
+use lib.ListN.{length, replicate}
+use Rattle.refusals.specs.declared.Fault.{Fault}
+use Rattle.refusals.specs.declared.Fault.the-variants.{Length, Digit, Substance, Setting, Quantity, Heat}
+
+abbrev pub number : Fault → ℕ
+number Length = 1
+number Digit = 2
+number Substance = 3
+number Setting = 4
+number Quantity = 5
+number Heat = 6
+
+-- each word as its bytes: length, digit, substance, setting, quantity, heat
+abbrev pub word : Fault → List ℕ
+word Length = 108 ∷ 101 ∷ 110 ∷ 103 ∷ 116 ∷ 104 ∷ []
+word Digit = 100 ∷ 105 ∷ 103 ∷ 105 ∷ 116 ∷ []
+word Substance = 115 ∷ 117 ∷ 98 ∷ 115 ∷ 116 ∷ 97 ∷ 110 ∷ 99 ∷ 101 ∷ []
+word Setting = 115 ∷ 101 ∷ 116 ∷ 116 ∷ 105 ∷ 110 ∷ 103 ∷ []
+word Quantity = 113 ∷ 117 ∷ 97 ∷ 110 ∷ 116 ∷ 105 ∷ 116 ∷ 121 ∷ []
+word Heat = 104 ∷ 101 ∷ 97 ∷ 116 ∷ []
+
+-- a word filled with zeros to 12 bytes
+abbrev pub filled : List ℕ → List ℕ
+filled w = w ++ replicate (12 - length w) 0

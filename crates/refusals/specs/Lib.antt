@@ -1,0 +1,3 @@
+pub mod Faults
+pub mod Order
+pub mod laws

@@ -1,0 +1,4 @@
+pub mod Refusals
+pub mod Ring
+pub mod Searching
+pub mod laws
