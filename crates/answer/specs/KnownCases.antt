@@ -11,9 +11,9 @@ use Rattle.guidance.specs.Clouds.{rangeOf, energy}
 use Rattle.guidance.specs.Distances.{nearer, cube02}
 use Rattle.guidance.specs.Waves.{standardAir, reducedPressure}
 use Rattle.refusals.specs.declared.Fault.the-variants.{Substance, Heat}
+use Rattle.fields.specs.Bytes.{fieldsOf}
 use Rattle.frame.specs.declared.Refusal.the-variants.{Faulty, Beyond}
 use Rattle.frame.specs.declared.Verdict.the-variants.{Accepted, Refused}
-use Rattle.frame.specs.Bytes.{fieldsOf}
 use Rattle.frame.specs.Verdicts.{frameVerdict}
 use Rattle.answer.specs.Answer.{ExactBetween, Answer}
 

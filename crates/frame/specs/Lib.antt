@@ -1,5 +1,4 @@
 pub mod Refusals
-pub mod Bytes
 pub mod Tests
 pub mod Verdicts
 pub mod Checks

@@ -10,8 +10,8 @@ use Rattle.frame.specs.declared.Refusal.{Refusal}
 use Rattle.frame.specs.declared.Refusal.the-variants.{Faulty, Beyond, Space}
 use Rattle.frame.specs.declared.Verdict.{Verdict}
 use Rattle.frame.specs.declared.Verdict.the-variants.{Accepted, Refused}
-use Rattle.frame.specs.Bytes.{fieldsOf}
 use Rattle.hexadecimals.specs.Digits.{bytesOf}
+use Rattle.fields.specs.Bytes.{fieldsOf}
 use Rattle.refusals.specs.Order.{Test, _when_, firstOf, held}
 use Rattle.frame.specs.Tests.{frameTests, lineTests}
 

@@ -1,2 +1,3 @@
 -- Laws of the definitions.
 pub mod Order
+pub mod Numbers

@@ -30,24 +30,11 @@ pub fn word_of(f: Fault) -> [u8; 12]
     ensures { λ w. ⌜ w ≡ filled (word f) ⌝ }
 {
     match f {
-        Fault::Length => [b'l', b'e', b'n', b'g', b't', b'h', 0, 0, 0, 0, 0, 0],
-        Fault::Digit => [b'd', b'i', b'g', b'i', b't', 0, 0, 0, 0, 0, 0, 0],
-        Fault::Substance => [
-            b's',
-            b'u',
-            b'b',
-            b's',
-            b't',
-            b'a',
-            b'n',
-            b'c',
-            b'e',
-            0,
-            0,
-            0,
-        ],
-        Fault::Setting => [b's', b'e', b't', b't', b'i', b'n', b'g', 0, 0, 0, 0, 0],
-        Fault::Quantity => [b'q', b'u', b'a', b'n', b't', b'i', b't', b'y', 0, 0, 0, 0],
-        Fault::Heat => [b'h', b'e', b'a', b't', 0, 0, 0, 0, 0, 0, 0, 0],
+        Fault::Length => *b"length\0\0\0\0\0\0",
+        Fault::Digit => *b"digit\0\0\0\0\0\0\0",
+        Fault::Substance => *b"substance\0\0\0",
+        Fault::Setting => *b"setting\0\0\0\0\0",
+        Fault::Quantity => *b"quantity\0\0\0\0",
+        Fault::Heat => *b"heat\0\0\0\0\0\0\0\0",
     }
 }

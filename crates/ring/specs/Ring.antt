@@ -10,8 +10,9 @@ use Rattle.guidance.specs.Waves.{standardAir, overpressure}
 use Rattle.hexadecimals.specs.Digits.{bytesOf}
 use Rattle.refusals.specs.declared.Fault.{Fault}
 use Rattle.refusals.specs.Order.{Test, _when_, firstOf, held}
-use Rattle.frame.specs.Bytes.{fieldsOf}
-use Rattle.frame.specs.Tests.{outside, frameTests, lineTests}
+use Rattle.fields.specs.Bytes.{fieldsOf}
+use Rattle.limits.specs.Tests.{outside}
+use Rattle.frame.specs.Tests.{frameTests, lineTests}
 use Rattle.layout.specs.declared.Ends.{Ends}
 use Rattle.answer.specs.Answer.{WaveEnds}
 use Rattle.receptor.specs.Receptor.{moved, farthest}

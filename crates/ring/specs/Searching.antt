@@ -7,8 +7,8 @@ use Rattle.guidance.specs.Cases.{Air}
 use Rattle.guidance.specs.CloudWords.{Heated}
 use Rattle.guidance.specs.Waves.{overpressure}
 use Rattle.guidance.specs.Distances.{farther, cube24}
-use Rattle.frame.specs.declared.Checked.{Checked}
-use Rattle.frame.specs.declared.Checked.the-variants.{Sound, Unsound}
+use Rattle.limits.specs.declared.Checked.{Checked}
+use Rattle.limits.specs.declared.Checked.the-variants.{Sound, Unsound}
 use Rattle.refusals.specs.Order.{firstOf}
 use Rattle.layout.specs.declared.Ends.{Ends}
 use Rattle.blast.specs.Promises.{Ended}

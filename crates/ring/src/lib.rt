@@ -5,15 +5,15 @@ ghost use Rattle.guidance.specs.Cases.{Air};
 ghost use Rattle.guidance.specs.CloudWords.{Heated};
 ghost use Rattle.guidance.specs.Waves.{overpressure};
 ghost use Rattle.refusals.specs.Faults.{filled};
-ghost use Rattle.frame.specs.Checks.{HeatedIfSound};
+ghost use Rattle.limits.specs.Checks.{HeatedIfSound};
 ghost use Rattle.blast.specs.Promises.{Ended};
 ghost use Rattle.receptor.specs.Receptor.{moved};
 ghost use Rattle.ring.specs.Refusals.{number, word};
 ghost use Rattle.ring.specs.Ring.{Fits, FromFrame, FromLine};
 ghost use Rattle.ring.specs.Searching.{endOf, Standing, Searched, Edge, Crossed, RingFor, AnswerTo};
-use frame::Checked;
 use guidance::Case;
 use layout::Ends;
+use limits::Checked;
 
 // Why there is no ring, in the order of the tests: a fault of the case, then 9, 10 and 11.
 pub enum Refusal {
@@ -49,22 +49,9 @@ pub fn word_of(r: Refusal) -> [u8; 12]
 {
     match r {
         Refusal::Faulty(f) => refusals::word_of(f),
-        Refusal::Threshold => [
-            b't',
-            b'h',
-            b'r',
-            b'e',
-            b's',
-            b'h',
-            b'o',
-            b'l',
-            b'd',
-            0,
-            0,
-            0,
-        ],
-        Refusal::Weak => [b'w', b'e', b'a', b'k', 0, 0, 0, 0, 0, 0, 0, 0],
-        Refusal::Strong => [b's', b't', b'r', b'o', b'n', b'g', 0, 0, 0, 0, 0, 0],
+        Refusal::Threshold => *b"threshold\0\0\0",
+        Refusal::Weak => *b"weak\0\0\0\0\0\0\0\0",
+        Refusal::Strong => *b"strong\0\0\0\0\0\0",
     }
 }
 
@@ -148,7 +135,7 @@ fn ring_for(c: Case, air: u64, threshold: u64) -> Answer
     requires { ⌜ (Heated c) × (Air air) ⌝ }
     ensures { λ r. ⌜ RingFor air c threshold r ⌝ }
 {
-    if frame::is_outside(1, 18 * air, threshold) {
+    if limits::is_outside(1, 18 * air, threshold) {
         return Answer::Refused(Refusal::Threshold);
     }
     search(c, air, threshold)

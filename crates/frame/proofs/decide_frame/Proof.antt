@@ -1,7 +1,7 @@
 -- `frame::decide_frame` meets its contract: tests 1 to 6, then 7 and 8. Assumes nothing.
 use mathlib.Core.Path.{ap, sym, _∙_}
 use denote.Ref.{now}
-use Rattle.frame.specs.declared.Checked.{Checked}
+use Rattle.limits.specs.declared.Checked.{Checked}
 use Rattle.frame.specs.Checks.{judged}
 use Rattle.frame.specs.laws.Checks.{frame-heated}
 use Rattle.frame.specs.laws.Verdicts.{frame-judged}

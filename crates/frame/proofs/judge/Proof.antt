@@ -1,6 +1,6 @@
 -- `frame::judge` meets its contract: what tests 1 to 6 found stands, else 7 and 8 decide. Assumes nothing.
 use mathlib.Core.Path.{sym, ap, _∙_}
-use Rattle.frame.specs.declared.Checked.{Checked}
+use Rattle.limits.specs.declared.Checked.{Checked}
 use Rattle.frame.specs.Checks.{judged}
 use borrow.Author.Needs.{needs}
 use Rattle.frame.proofs.judge.Statement.{statement}

@@ -23,10 +23,10 @@ returns : tie.Need-returns
 returns c = c .word-of .ensures ∙ sym (ap (λ (r : Refusal). filled (word r)) (c .before .before .r .given .1))
 
 returns-2 : tie.Need-returns-2
-returns-2 c = rw (c .enum-told .given .1)
+returns-2 c = rw (c .before .before .enum-told .given .1)
 
 returns-3 : tie.Need-returns-3
-returns-3 c = rw (c .enum-told2 .given .1)
+returns-3 c = rw (c .before .before .enum-told2 .given .1)
 
 pub word-of-spec : {M : Type 1} → statement M
 word-of-spec =

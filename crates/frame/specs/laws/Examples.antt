@@ -12,10 +12,11 @@ use Rattle.guidance.specs.Distances.{less, metres, cubed, farther, cube24}
 use Rattle.refusals.specs.declared.Fault.the-variants.{Length, Digit, Setting, Heat}
 use Rattle.frame.specs.declared.Refusal.the-variants.{Faulty}
 use Rattle.frame.specs.declared.Verdict.the-variants.{Accepted, Refused}
-use Rattle.frame.specs.Bytes.{fieldsOf}
+use Rattle.fields.specs.Bytes.{fieldsOf}
 use Rattle.hexadecimals.specs.Digits.{digitOf, allDigits, bytesOf}
 use Rattle.refusals.specs.Order.{firstOf, held}
-use Rattle.frame.specs.Tests.{settingOutside, quantityOutside, heatMissing, caseTests, frameTests, lineTests}
+use Rattle.limits.specs.Tests.{settingOutside, quantityOutside, heatMissing, fieldTests}
+use Rattle.frame.specs.Tests.{frameTests, lineTests}
 use Rattle.frame.specs.Verdicts.{lastTests, frameVerdict, lineVerdict}
 
 -- 00000001000000640001000100000000000000640046
@@ -71,7 +72,7 @@ pub record Examples : Type 0 where
   pub setting-first : frameVerdict twoFaults 77 ≡ Refused (Faulty Setting)
 
 pub examples : Examples
-unfolding frameVerdict lineVerdict firstOf held frameTests lineTests caseTests lastTests settingOutside quantityOutside heatMissing fieldsOf digitOf allDigits bytesOf farther less cubed metres cube24 power whole _⊗_ energy groundFactor leanFactor leanBy decLe aerosolFactor heatOf betas betaOf rangeOf classOf atLeast1
+unfolding frameVerdict lineVerdict firstOf held frameTests lineTests fieldTests lastTests settingOutside quantityOutside heatMissing fieldsOf digitOf allDigits bytesOf farther less cubed metres cube24 power whole _⊗_ energy groundFactor leanFactor leanBy decLe aerosolFactor heatOf betas betaOf rangeOf classOf atLeast1
 examples =
     record {
       empty-line = refl;

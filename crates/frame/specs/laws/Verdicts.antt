@@ -6,24 +6,25 @@ use mathlib.Core.List.{List, _++_}
 use mathlib.Core.Option.{Option, none, some}
 use native.Mathlib.Omega.{arith}
 use lib.ListN.{length}
-use lib.Dec.{eqb}
-use borrow.Author.Tests.{ne-eqb, eqb-true, ltb-false, le-ltb, not-false}
+use borrow.Author.Tests.{ne-eqb, ltb-false, le-ltb}
 use Rattle.guidance.specs.declared.Case.{Case}
 use Rattle.guidance.specs.Cases as cases
 use Rattle.guidance.specs.CloudWords.{Heated}
 use Rattle.guidance.specs.Waves.{standardAir}
 use Rattle.refusals.specs.declared.Fault.{Fault}
-use Rattle.refusals.specs.declared.Fault.the-variants.{Length, Digit, Substance, Setting, Quantity, Heat}
+use Rattle.refusals.specs.declared.Fault.the-variants.{Length, Digit, Heat}
 use Rattle.frame.specs.declared.Refusal.{Refusal}
-use Rattle.frame.specs.declared.Refusal.the-variants.{Faulty, Beyond, Space}
+use Rattle.frame.specs.declared.Refusal.the-variants.{Faulty, Space}
 use Rattle.frame.specs.declared.Verdict.the-variants.{Accepted, Refused}
 use Rattle.frame.specs.Refusals.{number}
-use Rattle.frame.specs.Bytes.{fieldsOf}
+use Rattle.fields.specs.Bytes.{fieldsOf}
 use Rattle.hexadecimals.specs.Digits.{allDigits, bytesOf}
 use Rattle.refusals.specs.Order.{Test, firstOf, held}
-use Rattle.frame.specs.Tests.{heatMissing, caseTests, frameTests, lineTests}
+use Rattle.limits.specs.Tests.{heatMissing, fieldTests}
+use Rattle.limits.specs.Checks.{checkedBy}
+use Rattle.frame.specs.Tests.{frameTests, lineTests}
 use Rattle.frame.specs.Verdicts.{answerLength, lastTests, verdictBy, frameVerdict, lineVerdict}
-use Rattle.frame.specs.Checks.{checkedBy, frameChecked, lineChecked, judged}
+use Rattle.frame.specs.Checks.{frameChecked, lineChecked, judged}
 use Rattle.refusals.specs.laws.Order.{orElse, first-held, same-held, found-held, neither-found, passed, applies, absent}
 use Rattle.frame.specs.laws.Checks as checks
 
@@ -93,14 +94,11 @@ pub record FrameTaken (frame : List ℕ) (c : Case) (room : ℕ) : Type 0 where
   pub taken : Taken (fieldsOf frame) c room
 
 pub frame-accepted : (frame : List ℕ) (c : Case) (room : ℕ) → frameVerdict frame room ≡ Accepted c → FrameTaken frame c room
-unfolding frameVerdict frameTests caseTests
+unfolding frameVerdict
 frame-accepted frame c room h =
     let k = clear (frameTests frame) (fieldsOf frame) c room h in
-    let p = passed (frameTests frame) (k .first) in
-    record {
-      size = eqb-true (length frame) 22 (not-false (eqb (length frame) 22) (p .0));
-      taken = taken-by (fieldsOf frame) c room (checks.heated-by _ _ (fieldsOf frame) (k .first)) (k .last) (k .same);
-    }
+    let p = checks.frame-clear frame (k .first) in
+    record { size = p .0; taken = taken-by (fieldsOf frame) c room (p .1) (k .last) (k .same) }
 
 pub record LineTaken (line : List ℕ) (c : Case) (room : ℕ) : Type 0 where
   pub size : length line ≡ 44
@@ -108,30 +106,12 @@ pub record LineTaken (line : List ℕ) (c : Case) (room : ℕ) : Type 0 where
   pub taken : Taken (fieldsOf (bytesOf line)) c room
 
 pub line-accepted : (line : List ℕ) (c : Case) (room : ℕ) → lineVerdict line room ≡ Accepted c → LineTaken line c room
-unfolding lineVerdict lineTests caseTests
+unfolding lineVerdict
 line-accepted line c room h =
     let d = fieldsOf (bytesOf line) in
     let k = clear (lineTests line) d c room h in
-    let p = passed (lineTests line) (k .first) in
-    record {
-      size = eqb-true (length line) 44 (not-false (eqb (length line) 44) (p .0));
-      digits = not-false (allDigits line) (p .1 .0);
-      taken = taken-by d c room (checks.heated-by _ _ d (k .first)) (k .last) (k .same);
-    }
-
--- the numbers
-fault-between : (f : Fault) → (1 ≤ number (Faulty f)) × (number (Faulty f) ≤ 8)
-fault-between Length = (omega arith, omega arith)
-fault-between Digit = (omega arith, omega arith)
-fault-between Substance = (omega arith, omega arith)
-fault-between Setting = (omega arith, omega arith)
-fault-between Quantity = (omega arith, omega arith)
-fault-between Heat = (omega arith, omega arith)
-
-pub number-between : (r : Refusal) → (1 ≤ number r) × (number r ≤ 8)
-number-between (Faulty f) = fault-between f
-number-between Beyond = (omega arith, omega arith)
-number-between Space = (omega arith, omega arith)
+    let p = checks.line-clear line (k .first) in
+    record { size = p .0; digits = p .1; taken = taken-by d c room (p .2) (k .last) (k .same) }
 
 -- a refusal is given only where its test applies
 refused-by : (o : Option Refusal) (d : Case) (r : Refusal) → verdictBy o d ≡ Refused r → o ≡ some r
@@ -143,15 +123,15 @@ not-refused r ts d a h = absent number r ts a (refused-by (firstOf ts) d r h)
 
 -- a frame given as bytes has no test 2
 pub frame-no-digit : (frame : List ℕ) (room : ℕ) → frameVerdict frame room ≡ Refused (Faulty Digit) → ⊥
-unfolding frameVerdict frameTests caseTests lastTests held
+unfolding frameVerdict frameTests fieldTests lastTests held
 frame-no-digit frame room h = not-refused (Faulty Digit) _ (fieldsOf frame) refl h
 
 -- with room for an answer no line has refusal 8
 pub line-no-space : (line : List ℕ) (room : ℕ) → answerLength ≤ room → lineVerdict line room ≡ Refused Space → ⊥
-unfolding lineVerdict lineTests caseTests lastTests held
+unfolding lineVerdict lineTests fieldTests lastTests held
 line-no-space line room enough h = not-refused Space _ (fieldsOf (bytesOf line)) (simp (le-ltb room answerLength enough)) h
 
 -- a given heat is never missing
 pub heat-given : (frame : List ℕ) (room : ℕ) → 0 < fieldsOf frame .heat → frameVerdict frame room ≡ Refused (Faulty Heat) → ⊥
-unfolding frameVerdict frameTests caseTests lastTests held heatMissing
+unfolding frameVerdict frameTests fieldTests lastTests held heatMissing
 heat-given frame room given h = not-refused (Faulty Heat) _ (fieldsOf frame) (simp (ne-eqb (fieldsOf frame .heat) 0 (λ e. omega arith))) h

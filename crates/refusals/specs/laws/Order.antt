@@ -43,11 +43,14 @@ module _ {R : Type 0} where
   Passed [] = Unit {0}
   Passed ((q when b) ∷ later) = (b ≡ false) × Passed later
 
-  pub passed : (ts : List (Test R)) → firstOf ts ≡ none → Passed ts
+  pub none-first : (q : R) (b : Bool) (later : List (Test R)) → firstOf ((q when b) ∷ later) ≡ none → (b ≡ false) × (firstOf later ≡ none)
   unfolding firstOf
+  none-first q true later h = absurd (Option·some-ne-none q h)
+  none-first q false later h = (refl, h)
+
+  pub passed : (ts : List (Test R)) → firstOf ts ≡ none → Passed ts
   passed [] h = tt
-  passed ((q when true) ∷ later) h = absurd (Option·some-ne-none q h)
-  passed ((q when false) ∷ later) h = (refl, passed later h)
+  passed ((q when b) ∷ later) h = let n = none-first q b later h in (n .0, passed later (n .1))
 
 module _ {R : Type 0} (number : R → ℕ) where
   -- whether a test of the refusal with this number applies, wherever it stands in the list

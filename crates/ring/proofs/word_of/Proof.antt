@@ -26,13 +26,13 @@ returns : tie.Need-returns
 returns c = c .word-of .ensures ∙ sym (ap (λ (r : Refusal). filled (word r)) (c .before .before .r .given .1))
 
 returns-2 : tie.Need-returns-2
-returns-2 c = rw (c .enum-told .given .1)
+returns-2 c = rw (c .before .before .enum-told .given .1)
 
 returns-3 : tie.Need-returns-3
-returns-3 c = rw (c .enum-told2 .given .1)
+returns-3 c = rw (c .before .before .enum-told2 .given .1)
 
 returns-4 : tie.Need-returns-4
-returns-4 c = rw (c .enum-told3 .given .1)
+returns-4 c = rw (c .before .before .enum-told3 .given .1)
 
 pub word-of-spec : {M : Type 1} → statement M
 word-of-spec =

@@ -12,14 +12,16 @@ use Rattle.guidance.specs.Waves.{standardAir}
 use Rattle.guidance.specs.Cases.{Air}
 use Rattle.hexadecimals.specs.Digits.{allDigits, bytesOf}
 use Rattle.refusals.specs.declared.Fault.{Fault}
-use Rattle.refusals.specs.declared.Fault.the-variants.{Length, Digit, Substance, Setting, Quantity, Heat}
-use Rattle.frame.specs.declared.Checked.{Checked}
-use Rattle.frame.specs.Bytes.{fieldsOf}
 use Rattle.refusals.specs.Order.{Test, firstOf}
-use Rattle.frame.specs.Tests.{outside, frameTests, lineTests}
-use Rattle.frame.specs.Checks.{checkedBy, frameChecked, lineChecked}
 use Rattle.refusals.specs.laws.Order.{orElse, first-held, same-held}
-use Rattle.frame.specs.laws.Checks.{line-frame, heated-by}
+use Rattle.refusals.specs.laws.Numbers.{no-fault}
+use Rattle.fields.specs.Bytes.{fieldsOf}
+use Rattle.limits.specs.declared.Checked.{Checked}
+use Rattle.limits.specs.Tests.{outside}
+use Rattle.limits.specs.Checks.{checkedBy}
+use Rattle.frame.specs.Tests.{frameTests, lineTests}
+use Rattle.frame.specs.Checks.{frameChecked, lineChecked}
+use Rattle.frame.specs.laws.Checks.{line-frame, frame-clear, line-clear}
 use Rattle.receptor.specs.Receptor.{moved}
 use Rattle.receptor.specs.laws.Moved.{never-beyond}
 use Rattle.ring.specs.declared.Refusal.{Refusal}
@@ -72,29 +74,19 @@ line-as-frame line t a h d f =
 -- no case that passes tests 1 to 6 is beyond at 1 cm, in any air that is covered
 
 pub frame-never-beyond : (frame : List ℕ) → firstOf (frameTests frame) ≡ none → (air : ℕ) → Air air → farther cube24 air (moved (fieldsOf frame) 1) ≡ false
-unfolding frameTests
-frame-never-beyond frame h air a = never-beyond (fieldsOf frame) air (heated-by _ _ (fieldsOf frame) h) a
+frame-never-beyond frame h air a = never-beyond (fieldsOf frame) air (frame-clear frame h .1) a
 
 pub line-never-beyond
     : (line : List ℕ) → firstOf (lineTests line) ≡ none → (air : ℕ) → Air air → farther cube24 air (moved (fieldsOf (bytesOf line)) 1) ≡ false
-unfolding lineTests
-line-never-beyond line h air a = never-beyond (fieldsOf (bytesOf line)) air (heated-by _ _ (fieldsOf (bytesOf line)) h) a
+line-never-beyond line h air a = never-beyond (fieldsOf (bytesOf line)) air (line-clear line h .2) a
 
 -- so 7 never comes, nor 8, since no area is lent
 pub record NoSevenNorEight (n : ℕ) : Type 0 where
   pub not-beyond : n ≡ 7 → ⊥
   pub not-space : n ≡ 8 → ⊥
 
-fault-numbered : (f : Fault) → NoSevenNorEight (number (Faulty f))
-fault-numbered Length = record { not-beyond = λ e. omega arith; not-space = λ e. omega arith }
-fault-numbered Digit = record { not-beyond = λ e. omega arith; not-space = λ e. omega arith }
-fault-numbered Substance = record { not-beyond = λ e. omega arith; not-space = λ e. omega arith }
-fault-numbered Setting = record { not-beyond = λ e. omega arith; not-space = λ e. omega arith }
-fault-numbered Quantity = record { not-beyond = λ e. omega arith; not-space = λ e. omega arith }
-fault-numbered Heat = record { not-beyond = λ e. omega arith; not-space = λ e. omega arith }
-
 pub numbered : (r : Refusal) → NoSevenNorEight (number r)
-numbered (Faulty f) = fault-numbered f
+numbered (Faulty f) = record { not-beyond = no-fault 7 refl f; not-space = no-fault 8 refl f }
 numbered Threshold = record { not-beyond = λ e. omega arith; not-space = λ e. omega arith }
 numbered Weak = record { not-beyond = λ e. omega arith; not-space = λ e. omega arith }
 numbered Strong = record { not-beyond = λ e. omega arith; not-space = λ e. omega arith }

@@ -11,8 +11,9 @@ use Rattle.guidance.specs.Distances.{less, metres, cubed, farther, cube24}
 use Rattle.guidance.specs.Waves.{standardAir}
 use Rattle.refusals.specs.declared.Fault.the-variants.{Setting}
 use Rattle.refusals.specs.Order.{firstOf, held}
-use Rattle.frame.specs.Bytes.{fieldsOf}
-use Rattle.frame.specs.Tests.{settingOutside, quantityOutside, heatMissing, caseTests, frameTests}
+use Rattle.fields.specs.Bytes.{fieldsOf}
+use Rattle.limits.specs.Tests.{settingOutside, quantityOutside, heatMissing, fieldTests}
+use Rattle.frame.specs.Tests.{frameTests}
 use Rattle.frame.specs.laws.Examples.{twoFaults}
 use Rattle.answer.specs.KnownCases.{q, propane}
 use Rattle.receptor.specs.Receptor.{moved, farthest}
@@ -40,7 +41,7 @@ unfolding fieldsOf moved farther less cubed metres cube24 power whole _⊗_ ener
 beyond = refl
 
 pub examples : Examples
-unfolding tests lastTests firstOf held frameTests caseTests settingOutside quantityOutside heatMissing fieldsOf betas betaOf
+unfolding tests lastTests firstOf held frameTests fieldTests settingOutside quantityOutside heatMissing fieldsOf betas betaOf
 examples =
     record {
       threshold-0 = refl;

@@ -1,10 +1,10 @@
--- `frame::quantity_outside` meets its contract: one of six answers. Assumes nothing.
+-- `limits::quantity_outside` meets its contract: one of six answers. Assumes nothing.
 use mathlib.Core.Path.{_∙_}
-use Rattle.frame.specs.laws.Limits.{joined}
-use Rattle.frame.specs.Tests.{quantityOutside}
+use Rattle.limits.specs.laws.Limits.{joined}
+use Rattle.limits.specs.Tests.{quantityOutside}
 use borrow.Author.Needs.{needs}
-use Rattle.frame.proofs.quantity_outside.Statement.{statement}
-use Rattle.frame.proofs.quantity_outside.Tie as tie
+use Rattle.limits.proofs.quantity_outside.Statement.{statement}
+use Rattle.limits.proofs.quantity_outside.Tie as tie
 
 is-outside-requires : tie.Need-is-outside-requires
 is-outside-requires c κs = search needs

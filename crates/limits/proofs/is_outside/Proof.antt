@@ -1,7 +1,7 @@
--- `frame::is_outside` meets its contract, by its two comparisons. Assumes nothing.
+-- `limits::is_outside` meets its contract, by its two comparisons. Assumes nothing.
 use borrow.Author.Tests.{le-leb, lt-leb}
-use Rattle.frame.proofs.is_outside.Statement.{statement}
-use Rattle.frame.proofs.is_outside.Tie as tie
+use Rattle.limits.proofs.is_outside.Statement.{statement}
+use Rattle.limits.proofs.is_outside.Tie as tie
 
 returns : tie.Need-returns
 returns c = simp (le-leb _ _ (c .if1 .taken))

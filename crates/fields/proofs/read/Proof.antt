@@ -1,9 +1,9 @@
--- `frame::fields_of` meets its contract: each field is the number at its place. Assumes nothing.
-use Rattle.frame.specs.Bytes.{fieldsOf}
+-- `fields::read` meets its contract: each field is the number at its place. Assumes nothing.
+use Rattle.fields.specs.Bytes.{fieldsOf}
 use mathlib.Core.Path.{refl}
 use borrow.Author.Needs.{needs}
-use Rattle.frame.proofs.fields_of.Statement.{statement}
-use Rattle.frame.proofs.fields_of.Tie as tie
+use Rattle.fields.proofs.read.Statement.{statement}
+use Rattle.fields.proofs.read.Tie as tie
 
 shared-slice-read-wide : tie.Need-shared-slice-read-wide
 shared-slice-read-wide c = search needs
@@ -69,8 +69,8 @@ returns c =
     )
     refl
 
-pub fields-of-spec : {M : Type 1} → statement M
-fields-of-spec =
+pub read-spec : {M : Type 1} → statement M
+read-spec =
     tie.close
     (tie.spec
     shared-slice-read-wide

@@ -1,23 +1,23 @@
--- `frame::check` meets its contract: each answer is that of a test, in the order of the list. Assumes nothing.
+-- `limits::check` meets its contract: each answer is that of a test, in the order of the list. Assumes nothing.
 use mathlib.Core.Path.{sym, _∙_}
 use Rattle.refusals.specs.Order.{firstOf}
-use Rattle.frame.specs.Tests.{caseTests}
+use Rattle.limits.specs.Tests.{fieldTests}
 use borrow.Author.Needs.{needs}
-use Rattle.frame.proofs.check.Statement.{statement}
-use Rattle.frame.proofs.check.Tie as tie
+use Rattle.limits.proofs.check.Statement.{statement}
+use Rattle.limits.proofs.check.Tie as tie
 
 is-outside-requires : tie.Need-is-outside-requires
 is-outside-requires c κs = search needs
 
 returns : tie.Need-returns
-unfolding firstOf caseTests
+unfolding firstOf fieldTests
 returns c = simp (sym (c .before .is-outside .ensures) ∙ c .if1 .taken)
 
 setting-outside-requires : tie.Need-setting-outside-requires
 setting-outside-requires c κs = search needs
 
 returns-2 : tie.Need-returns-2
-unfolding firstOf caseTests
+unfolding firstOf fieldTests
 returns-2 c =
     let p1 = c .before .before in
     simp (
@@ -29,7 +29,7 @@ quantity-outside-requires : tie.Need-quantity-outside-requires
 quantity-outside-requires c κs = search needs
 
 returns-3 : tie.Need-returns-3
-unfolding firstOf caseTests
+unfolding firstOf fieldTests
 returns-3 c =
     let p2 = c .before .before in
     let p1 = p2 .before .before in
@@ -43,7 +43,7 @@ heat-missing-requires : tie.Need-heat-missing-requires
 heat-missing-requires c κs = search needs
 
 returns-4 : tie.Need-returns-4
-unfolding firstOf caseTests
+unfolding firstOf fieldTests
 returns-4 c =
     let p3 = c .before .before in
     let p2 = p3 .before .before in
@@ -56,7 +56,7 @@ returns-4 c =
     )
 
 returns-5 : tie.Need-returns-5
-unfolding firstOf caseTests
+unfolding firstOf fieldTests
 returns-5 c =
     let p3 = c .before .before in
     let p2 = p3 .before .before in

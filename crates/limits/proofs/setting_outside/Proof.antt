@@ -1,10 +1,10 @@
--- `frame::setting_outside` meets its contract: one of three answers. Assumes nothing.
+-- `limits::setting_outside` meets its contract: one of three answers. Assumes nothing.
 use mathlib.Core.Path.{_∙_}
-use Rattle.frame.specs.laws.Limits.{joined}
-use Rattle.frame.specs.Tests.{settingOutside}
+use Rattle.limits.specs.laws.Limits.{joined}
+use Rattle.limits.specs.Tests.{settingOutside}
 use borrow.Author.Needs.{needs}
-use Rattle.frame.proofs.setting_outside.Statement.{statement}
-use Rattle.frame.proofs.setting_outside.Tie as tie
+use Rattle.limits.proofs.setting_outside.Statement.{statement}
+use Rattle.limits.proofs.setting_outside.Tie as tie
 
 is-outside-requires : tie.Need-is-outside-requires
 is-outside-requires c κs = search needs

@@ -1,7 +1,7 @@
 -- What is known of a case that passes tests 3 to 6. Assumes nothing.
 use Prim.Native.Nat.{ℕ, zero, suc, _*_}
 use mathlib.Core.Path.{_≡_, refl, sym, _∙_}
-use mathlib.Core.Bool.{false, _&&_, _||_}
+use mathlib.Core.Bool.{_&&_, _||_}
 use native.Mathlib.Omega.{arith}
 use lib.Dec.{eqb}
 use borrow.Author.Tests.{ne-eqb, eqb-false}
@@ -9,9 +9,9 @@ use Rattle.guidance.specs.declared.Case.{Case}
 use Rattle.guidance.specs.Substances.{betaOf, heatOf}
 use Rattle.guidance.specs.Cases.{Fields}
 use Rattle.guidance.specs.CloudWords.{Heated}
-use Rattle.refusals.specs.laws.Order.{neither}
-use Rattle.frame.specs.laws.Limits.{inside}
-use Rattle.frame.specs.Tests.{outside, settingOutside, quantityOutside, heatMissing}
+use Rattle.refusals.specs.laws.Order.{neither, Passed}
+use Rattle.limits.specs.laws.Limits.{inside}
+use Rattle.limits.specs.Tests.{outside, settingOutside, quantityOutside, heatMissing, fieldTests}
 
 -- no heat is a heat of 0
 no-product : (n : ℕ) → eqb n 0 ≡ eqb (440 * n) 0
@@ -27,9 +27,9 @@ pub heat-missing : (c : Case) → heatMissing c ≡ eqb (heatOf (c .substance) (
 unfolding heatMissing
 heat-missing c = no-heat (c .substance) (c .heat)
 
-module _ (c : Case) (substance : outside 0 75 (c .substance) ≡ false) (setting : settingOutside c ≡ false) (quantity : quantityOutside c ≡ false) where
+module _ (c : Case) (p : Passed (fieldTests c)) where
   pub fields : Fields c
-  unfolding settingOutside quantityOutside
+  unfolding fieldTests settingOutside quantityOutside
   fields =
       let state = outside 0 1 (c .state) in
       let placement = outside 0 1 (c .placement) in
@@ -38,15 +38,15 @@ module _ (c : Case) (substance : outside 0 75 (c .substance) ≡ false) (setting
       let stoichiometric = outside 1 50000 (c .stoichiometric) in
       let heat = outside 0 150000 (c .heat) in
       let distance = outside 1 1000000 (c .distance) in
-      let s2 = neither (state || placement) (outside 1 4 (c .surroundings)) setting in
+      let s2 = neither (state || placement) (outside 1 4 (c .surroundings)) (p .1 .0) in
       let s1 = neither state placement (s2 .0) in
-      let q5 = neither (mass || mean || stoichiometric || heat || distance) (outside 1 500 (c .body)) quantity in
+      let q5 = neither (mass || mean || stoichiometric || heat || distance) (outside 1 500 (c .body)) (p .1 .1 .0) in
       let q4 = neither (mass || mean || stoichiometric || heat) distance (q5 .0) in
       let q3 = neither (mass || mean || stoichiometric) heat (q4 .0) in
       let q2 = neither (mass || mean) stoichiometric (q3 .0) in
       let q1 = neither mass mean (q2 .0) in
       record {
-        substance = inside 0 75 (c .substance) substance .1;
+        substance = inside 0 75 (c .substance) (p .0) .1;
         state = inside 0 1 (c .state) (s1 .0) .1;
         placement = inside 0 1 (c .placement) (s1 .1) .1;
         surroundings = inside 1 4 (c .surroundings) (s2 .1) .0;
@@ -64,5 +64,10 @@ module _ (c : Case) (substance : outside 0 75 (c .substance) ≡ false) (setting
         body-most = inside 1 500 (c .body) (q5 .1) .1;
       }
 
-  pub heated : heatMissing c ≡ false → Heated c
-  heated h = record { fields = fields; heat = let n = eqb-false (heatOf (c .substance) (c .heat)) 0 (sym (heat-missing c) ∙ h) in omega arith }
+  pub heated : Heated c
+  unfolding fieldTests
+  heated =
+      record {
+        fields = fields;
+        heat = let n = eqb-false (heatOf (c .substance) (c .heat)) 0 (sym (heat-missing c) ∙ p .1 .1 .1 .0) in omega arith;
+      }

@@ -1,11 +1,11 @@
--- `frame::heat_missing` meets its contract: no heat is a heat of 0. Assumes nothing.
+-- `limits::heat_missing` meets its contract: no heat is a heat of 0. Assumes nothing.
 use Prim.Native.Nat.{ℕ}
 use mathlib.Core.Path.{ap, sym, _∙_}
 use lib.Dec.{eqb}
-use Rattle.frame.specs.laws.Fields.{heat-missing}
+use Rattle.limits.specs.laws.Fields.{heat-missing}
 use borrow.Author.Needs.{needs}
-use Rattle.frame.proofs.heat_missing.Statement.{statement}
-use Rattle.frame.proofs.heat_missing.Tie as tie
+use Rattle.limits.proofs.heat_missing.Statement.{statement}
+use Rattle.limits.proofs.heat_missing.Tie as tie
 
 heat-of-requires : tie.Need-heat-of-requires
 heat-of-requires c κs = search needs

@@ -4,7 +4,7 @@ use mathlib.Core.Path.{_≡_, ap, _∙_}
 use mathlib.Core.Bool.{Bool, false, _||_}
 use borrow.Author.Tests.{not-false}
 use Rattle.hexadecimals.specs.laws.Within.{within-true}
-use Rattle.frame.specs.Tests.{outside}
+use Rattle.limits.specs.Tests.{outside}
 
 -- the answer of `||` over equal answers
 pub joined : {a b c d : Bool} → a ≡ b → c ≡ d → (a || c) ≡ (b || d)

@@ -1,0 +1,22 @@
+-- What tests make of a case that look at nothing but the case itself.
+use mathlib.Core.Path.{_≡_}
+use mathlib.Core.Option.{Option, none, some}
+use Rattle.guidance.specs.declared.Case.{Case}
+use Rattle.guidance.specs.CloudWords.{Heated}
+use Rattle.refusals.specs.declared.Fault.{Fault}
+use Rattle.refusals.specs.Order.{firstOf}
+use Rattle.limits.specs.declared.Checked.{Checked}
+use Rattle.limits.specs.declared.Checked.the-variants.{Sound, Unsound}
+use Rattle.limits.specs.Tests.{fieldTests}
+
+abbrev pub checkedBy : Option Fault → Case → Checked
+checkedBy none c = Sound c
+checkedBy (some f) c = Unsound f
+
+-- by tests 3 to 6
+abbrev pub caseChecked : Case → Checked
+caseChecked c = checkedBy (firstOf (fieldTests c)) c
+
+-- a case that passed them has its fields in their values, and a heat
+abbrev pub HeatedIfSound : Checked → Type 0
+HeatedIfSound s = (c : Case) → s ≡ Sound c → Heated c

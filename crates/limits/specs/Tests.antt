@@ -1,0 +1,39 @@
+-- Tests 3 to 6: the values of each field, and a heat (document 01, "The case frame", "Refused cases").
+use Prim.Native.Nat.{ℕ}
+use mathlib.Core.Bool.{Bool, not, _&&_, _||_}
+use mathlib.Core.List.{List, [], _∷_}
+use lib.Dec.{eqb}
+use Rattle.hexadecimals.specs.Digits.{within}
+use Rattle.guidance.specs.declared.Case.{Case}
+use Rattle.guidance.specs.Substances.{betaOf}
+use Rattle.refusals.specs.declared.Fault.{Fault}
+use Rattle.refusals.specs.declared.Fault.the-variants.{Substance, Setting, Quantity, Heat}
+use Rattle.refusals.specs.Order.{Test, _when_}
+
+-- x is none of the values least to most
+abbrev pub outside : (least most x : ℕ) → Bool
+outside least most x = not (within least most x)
+
+unfoldable pub settingOutside : Case → Bool
+settingOutside c = outside 0 1 (c .state) || outside 0 1 (c .placement) || outside 1 4 (c .surroundings)
+
+unfoldable pub quantityOutside : Case → Bool
+quantityOutside c =
+    outside 1 1000000000 (c .mass)
+    || outside 1 50000 (c .mean)
+    || outside 1 50000 (c .stoichiometric)
+    || outside 0 150000 (c .heat)
+    || outside 1 1000000 (c .distance)
+    || outside 1 500 (c .body)
+
+-- heat 0, and the substance has no β
+unfoldable pub heatMissing : Case → Bool
+heatMissing c = eqb (c .heat) 0 && eqb (betaOf (c .substance)) 0
+
+unfoldable pub fieldTests : Case → List (Test Fault)
+fieldTests c =
+    (Substance when outside 0 75 (c .substance))
+    ∷ (Setting when settingOutside c)
+    ∷ (Quantity when quantityOutside c)
+    ∷ (Heat when heatMissing c)
+    ∷ []

@@ -1,0 +1,78 @@
+// Tests 3 to 6: whether each field of a case holds one of its values, and whether the case has a heat.
+ghost use mathlib.Core.Path.{_≡_};
+ghost use mathlib.Core.Bool.{_||_};
+ghost use Rattle.limits.specs.Tests.{outside, settingOutside, quantityOutside, heatMissing};
+ghost use Rattle.limits.specs.Checks.{caseChecked};
+use guidance::Case;
+use refusals::Fault;
+
+// What tests make of a case that look at nothing but the case itself.
+pub enum Checked {
+    Sound(Case),
+    Unsound(Fault),
+}
+
+fn either(a: bool, b: bool) -> bool
+    ensures { λ r. ⌜ r ≡ (a || b) ⌝ }
+{
+    if a { true } else { b }
+}
+
+// Whether x is none of the values least to most.
+pub fn is_outside(least: u64, most: u64, x: u64) -> bool
+    ensures { λ r. ⌜ r ≡ outside least most x ⌝ }
+{
+    if least <= x { !(x <= most) } else { true }
+}
+
+fn setting_outside(c: Case) -> bool
+    ensures { λ r. ⌜ r ≡ settingOutside c ⌝ }
+{
+    let state = is_outside(0, 1, c.state);
+    let placement = is_outside(0, 1, c.placement);
+    let surroundings = is_outside(1, 4, c.surroundings);
+    either(either(state, placement), surroundings)
+}
+
+fn quantity_outside(c: Case) -> bool
+    ensures { λ r. ⌜ r ≡ quantityOutside c ⌝ }
+{
+    let mass = is_outside(1, 1000000000, c.mass);
+    let mean = is_outside(1, 50000, c.mean);
+    let stoichiometric = is_outside(1, 50000, c.stoichiometric);
+    let heat = is_outside(0, 150000, c.heat);
+    let distance = is_outside(1, 1000000, c.distance);
+    let body = is_outside(1, 500, c.body);
+    either(
+        either(
+            either(either(either(mass, mean), stoichiometric), heat),
+            distance,
+        ),
+        body,
+    )
+}
+
+fn heat_missing(c: Case) -> bool
+    ensures { λ r. ⌜ r ≡ heatMissing c ⌝ }
+{
+    guidance::heat_of(c) == 0
+}
+
+// Tests 3 to 6.
+pub fn check(c: Case) -> Checked
+    ensures { λ r. ⌜ r ≡ caseChecked c ⌝ }
+{
+    if is_outside(0, 75, c.substance) {
+        return Checked::Unsound(Fault::Substance);
+    }
+    if setting_outside(c) {
+        return Checked::Unsound(Fault::Setting);
+    }
+    if quantity_outside(c) {
+        return Checked::Unsound(Fault::Quantity);
+    }
+    if heat_missing(c) {
+        return Checked::Unsound(Fault::Heat);
+    }
+    Checked::Sound(c)
+}
