@@ -40,8 +40,8 @@ static int parse(const char *text, size_t length, struct record *r)
         return 0;
     text += n, length -= n;
     if (text[0] == 'R') {
-        r->refusal = text[1] - '0';
-        return length == 2;
+        r->refusal = length == 2 ? text[1] - '0' : 10 * (text[1] - '0') + text[2] - '0';
+        return length == 2 || (length == 3 && text[1] == '1');
     }
     if (text[0] != 'A' || length != 1 + 2 * ANSWER)
         return 0;
@@ -176,15 +176,16 @@ int main(int count, char **words)
     char *text[3] = { 0 };
     size_t room[3] = { 0 };
     ssize_t length[3];
-    uint64_t verdicts[9] = { 0 };
+    uint64_t verdicts[15] = { 0 };
     int inside = strcmp(words[4], "inside") == 0;
     for (int i = 0; i < 3; i++)
         file[i] = open_or_end(words[1 + i]);
     while (next_lines(file, text, room, length))
         verdicts[hold_line(text, length, inside)]++;
     printf("%llu lines, %llu accepted, refused", (unsigned long long)number, (unsigned long long)verdicts[0]);
-    for (int i = 1; i < 8; i++)
-        printf(" %d:%llu", i, (unsigned long long)verdicts[i]);
+    static const int order[] = { 1, 2, 3, 12, 13, 14, 5, 6, 7 };
+    for (size_t i = 0; i < sizeof order / sizeof *order; i++)
+        printf(" %d:%llu", order[i], (unsigned long long)verdicts[order[i]]);
     printf("; %llu faults\n", (unsigned long long)faults);
     if (inside && verdicts[0] > 0)
         count_ends(verdicts[0]);

@@ -108,7 +108,7 @@ static int permitted(const struct request *q, struct ring r)
 /* Compares all answers, and keeps the requests that have a ring. */
 static void compare(void)
 {
-    size_t kept = 0, equal = 0, refused[12] = { 0 };
+    size_t kept = 0, equal = 0, refused[15] = { 0 };
     for (size_t i = 0; i < count; i++) {
         struct ring ours = proved_ring(&requests[i]), theirs = double_ring(&requests[i]);
         int same = ours.refusal == theirs.refusal && ours.inner == theirs.inner && ours.outer == theirs.outer;

@@ -96,8 +96,12 @@ int decide_frame(const uint8_t frame[FRAME], struct cloud *c)
     uint32_t heat = four(frame + 12), distance = four(frame + 16), body = two(frame + 20);
     if (substance > 75)
         return 3;
-    if (state > 1 || placement > 1 || outside(surroundings, 1, 4))
-        return 4;
+    if (state > 1)
+        return 12;
+    if (placement > 1)
+        return 13;
+    if (outside(surroundings, 1, 4))
+        return 14;
     if (outside(mass, 1, 1000000000) || outside(mean, 1, 50000) || outside(stoichiometric, 1, 50000) || heat > 150000
         || outside(distance, 1, 1000000) || outside(body, 1, 500))
         return 5;
@@ -204,7 +208,7 @@ static int put_record(const uint8_t *line, size_t length, worker *work)
     *at++ = ' ';
     if (refusal > 0) {
         *at++ = 'R';
-        *at++ = (uint8_t)('0' + refusal);
+        at = put_decimal(at, (uint64_t)refusal);
     } else {
         struct figures f;
         uint8_t area[ANSWER];

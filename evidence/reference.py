@@ -77,8 +77,12 @@ def decide_frame(frame, room=ANSWER):
     substance, state, placement, around, mass, c, s, heat, r, body = case = fields(frame)
     if substance > 75:
         return 3
-    if state > 1 or placement > 1 or not 1 <= around <= 4:
-        return 4
+    if state > 1:
+        return 12
+    if placement > 1:
+        return 13
+    if not 1 <= around <= 4:
+        return 14
     if any(not low <= value <= high for value, (low, high) in zip(case[4:], LIMITS)):
         return 5
     if heat == 0 and SUBSTANCES[substance][1] is None:
@@ -329,6 +333,11 @@ def random_line(source):
     elif kind < 10:
         at = 2 * source.below(22)
         line[at:at + 2] = b'%02X' % source.choice((0, 1, 2, 5, 76, 255, source.below(256)))
+    elif kind < 12:
+        # the settings and the bytes beside them, several at once
+        for at in range(5):
+            if source.chance(50):
+                line[2 * at:2 * at + 2] = b'%02X' % source.choice((0, 1, 2, 4, 5, 75, 76, 255))
     elif kind < 20:
         return bytes(line).lower()
     return bytes(line)
@@ -456,14 +465,19 @@ def extremes():
                     yield frame_line(changed(case, state=1 - state, r=min(10**6, centimetres(changed(case, state=1 - state), 24)), body=1))
 
 
-# each refusal's number, and what brings it about: new fields, a new line, or less room
+# each refusal's number, and what brings it about
 SPOILED = (
-    (3, dict(substance=76)), (3, dict(substance=255)), (4, dict(state=2)), (4, dict(placement=2)), (4, dict(around=0)), (4, dict(around=5)),
+    (3, dict(substance=76)), (3, dict(substance=255)), (12, dict(state=2)), (12, dict(state=255)), (13, dict(placement=2)),
+    (13, dict(placement=255)), (14, dict(around=0)), (14, dict(around=5)), (14, dict(around=255)),
     (5, dict(mass=0)), (5, dict(mass=10**9 + 1)), (5, dict(c=0)), (5, dict(c=50001)), (5, dict(s=0)), (5, dict(s=50001)),
     (5, dict(heat=150001)), (5, dict(r=0)), (5, dict(r=10**6 + 1)), (5, dict(body=0)), (5, dict(body=501)),
     (6, dict(heat=0)), (7, dict(r=2401)), (7, dict(r=10**6)),
 )
-PAIRS = ((3, dict(substance=76)), (4, dict(around=5)), (5, dict(body=0)), (6, dict(heat=0)), (7, dict(r=10**6)))
+# one for each test on a case, in the order of the tests
+ORDER = (
+    (3, dict(substance=76)), (12, dict(state=2)), (13, dict(placement=2)), (14, dict(around=5)), (5, dict(body=0)), (6, dict(heat=0)),
+    (7, dict(r=10**6)),
+)
 
 
 def refusals():
@@ -478,12 +492,11 @@ def refusals():
         assert decide(spoiled) == number
         yield spoiled, ANSWER
         yield b'g' + spoiled[1:], ANSWER
-    for first, one in PAIRS:
-        for second, other in PAIRS:
-            if first < second:
-                spoiled = frame_line(changed(Q, **{**one, **other}))
-                assert decide(spoiled) == first
-                yield spoiled, ANSWER
+    for place, (number, one) in enumerate(ORDER):
+        for _, later in ORDER[place + 1:]:
+            spoiled = frame_line(changed(Q, **{**one, **later}))
+            assert decide(spoiled) == number
+            yield spoiled, ANSWER
         for spoiled, room in ((frame_line(changed(Q, **one)), 76), (b'x' + line[1:-1], ANSWER), (frame_line(changed(Q, **one))[:-1], 0)):
             yield spoiled, room
     for room in (76, 75, 1, 0):
@@ -516,6 +529,7 @@ def planted():
     """Vectors with one fault each: in the data (N), in both answers (B) or in the frame's answer alone (F), a byte at a place or, at 80, the verdict."""
     right = vector(frame_line(Q), 80).split(b' ')
     refused = vector(frame_line(changed(Q, r=2401)), 80).split(b' ')
+    placed = vector(frame_line(changed(Q, placement=2)), 80).split(b' ')
 
     def with_word(words, at, word):
         return b' '.join(words[:at] + [word] + words[at + 1:])
@@ -524,7 +538,7 @@ def planted():
         return with_word(right, at, decimal(mpf(right[at].decode()) + by).encode())
 
     for text in (moved(2, 1), moved(3, -1), with_word(right, 4, right[4].lstrip(b'-')), moved(8, mpf('0.001')),
-                 with_word(right, 1, b'A2'), with_word(refused, 1, b'R6')):
+                 with_word(right, 1, b'A2'), with_word(refused, 1, b'R6'), with_word(placed, 1, b'R12'), with_word(placed, 1, b'R1')):
         yield b'N0 0 ' + text
     wide = b'B24 %d' % ((math.ceil(1000 * Fraction(right[4].decode())) + 2) % 256)
     for place in (b'B80 7', b'B8 255', wide, b'B58 10', b'B76 10', b'B77 1', b'B79 1', b'F80 7', b'F0 2', b'F79 1'):

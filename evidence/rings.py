@@ -19,7 +19,7 @@ from fractions import Fraction
 
 from mpmath import mp, mpf
 
-from reference import (CUBES, HEX, LIMITS, P0, PAIRS, PROPANE, Q, SPOILED, STEPS, Source, answer, centimetres, changed, cloud, contents, decide,
+from reference import (CUBES, HEX, LIMITS, ORDER, P0, PROPANE, Q, SPOILED, STEPS, Source, answer, centimetres, changed, cloud, contents, decide,
                        fields, frame_line, lines_of, random_case, random_line, reduced)
 
 MOST = 18 * P0  # the greatest threshold, and the overpressure of a detonation's near field
@@ -235,7 +235,7 @@ def check(reckon, requests, records):
     ends = iter(reckoned(reckon, lines))
     for number, curve, threshold, verdict in left:
         bad += told(number, ends_faults(curve, threshold, verdict, {r: next(ends) for r in probes(curve, verdict)}))
-    refused = ' '.join('%d:%d' % (n, counts['R%d' % n]) for n in range(1, 12))
+    refused = ' '.join('%d:%d' % (n, counts['R%d' % n]) for n in (1, 2, 3, 12, 13, 14, 5, 6, 9, 10, 11))
     print('%d requests, %d rings, refused %s; %d faults' % (len(requests), counts['rings'], refused, bad))
     return 1 if bad else 0
 
@@ -346,14 +346,14 @@ def edges():
 
 
 def refusals():
-    """Refusals 1 to 6, alone and with a later one: of these six, or of 9, 10 and 11, which the thresholds bring about."""
+    """Tests 1 to 6, alone and with a later one: of these, or of 9, 10 and 11, which the thresholds bring about."""
     case, several = changed(Q, substance=47, around=4), (100, 0, MOST, 3)
     line = frame_line(case)
     damaged = [line] * 4 + [b'', line[:43], line + b'0', line + b'\r', b'x' + line[1:-1]]
     damaged += [line[:at] + ch + line[at + 1:] for at, ch in ((0, b'G'), (43, b'g'), (20, b' '), (21, b'\xff'), (22, b'\x00'))]
     damaged += [b'g' + frame_line(changed(case, body=0))[1:]]
-    damaged += [frame_line(changed(case, **new)) for number, new in SPOILED if number < 7]
-    damaged += [frame_line(changed(case, **{**one, **other})) for first, one in PAIRS for second, other in PAIRS if first < second < 7]
+    damaged += [frame_line(changed(case, **new)) for number, new in SPOILED if number != 7]
+    damaged += [frame_line(changed(case, **{**one, **later})) for (_, one), (_, later) in itertools.combinations(ORDER[:-1], 2)]
     damaged += [frame_line(changed(case, heat=0))] * 4
     for number, text in enumerate(damaged):
         yield several[number % 4], text

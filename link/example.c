@@ -1,12 +1,14 @@
 /* Calls Yakepuhi from C: a case as a line and as a frame's bytes, its overpressure and its impulse alone, its rings,
-   a wrong line and an area that is too short, each printed in readable form. */
+   a wrong line, a wrong setting and an area that is too short, each printed in readable form. */
 #include "yakepuhi.h"
 
 #include <inttypes.h>
 #include <stdio.h>
 #include <string.h>
 
-static const char *const words[12] = { "accepted", "length", "digit", "substance", "setting", "quantity", "heat", "beyond", "space", "threshold", "weak", "strong" };
+/* by number; none is numbered 4 */
+static const char *const words[15] = { "accepted", "length", "digit", "substance", "", "quantity", "heat", "beyond", "space", "threshold", "weak", "strong",
+                                       "state", "placement", "surroundings" };
 
 static uint32_t four(const uint8_t *b) { return (uint32_t)b[0] << 24 | (uint32_t)b[1] << 16 | (uint32_t)b[2] << 8 | b[3]; }
 static int32_t four_signed(const uint8_t *b) { return (int32_t)four(b); }
@@ -89,6 +91,7 @@ int main(void)
     ask_ring(line, frame, YAKEPUHI_THRESHOLD);
     ask_ring(line, frame, YAKEPUHI_THRESHOLD + 1);
     ask("a wrong line", "11000104007A1200057803020000B54000002710004G", YAKEPUHI_ANSWER);
+    ask("a wrong setting", "11000204007A1200057803020000B540000027100046", YAKEPUHI_ANSWER);
     ask("a short area", line, YAKEPUHI_ANSWER - 1);
     return 0;
 }

@@ -1,5 +1,5 @@
 { Calls Yakepuhi from Free Pascal: a case as a line and as a frame's bytes, its overpressure and its impulse alone, its rings,
-  a wrong line and an area that is too short, each printed in readable form. }
+  a wrong line, a wrong setting and an area that is too short, each printed in readable form. }
 program example;
 
 {$mode objfpc}{$H+}
@@ -10,7 +10,9 @@ const
   AnswerBytes = 77;
   Mark = $EE;
   GreatestThreshold = 1823400;
-  Words: array[0..11] of string = ('accepted', 'length', 'digit', 'substance', 'setting', 'quantity', 'heat', 'beyond', 'space', 'threshold', 'weak', 'strong');
+  { by number; none is numbered 4 }
+  Words: array[0..14] of string = ('accepted', 'length', 'digit', 'substance', '', 'quantity', 'heat', 'beyond', 'space', 'threshold', 'weak', 'strong',
+    'state', 'placement', 'surroundings');
   { 8 t of propane on the ground, 100 m away }
   Line = '11000104007A1200057803020000B540000027100046';
   Frame: array[0..21] of Byte = ($11, 0, 1, 4, 0, $7A, $12, 0, 5, $78, 3, 2, 0, 0, $B5, $40, 0, 0, $27, $10, 0, $46);
@@ -140,5 +142,6 @@ begin
   AskRing(Line, @Frame[0], SizeOf(Frame), GreatestThreshold);
   AskRing(Line, @Frame[0], SizeOf(Frame), GreatestThreshold + 1);
   Ask('a wrong line', Copy(Line, 1, 43) + 'G', AnswerBytes);
+  Ask('a wrong setting', '11000204007A1200057803020000B540000027100046', AnswerBytes);
   Ask('a short area', Line, AnswerBytes - 1);
 end.

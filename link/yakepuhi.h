@@ -4,8 +4,9 @@
    - each pointer reaches as many bytes as the length beside it says, or one whole uint64_t, and is not null, even where the length is 0;
    - no two of a call's pointers reach the same byte, and no other thread writes what they reach during the call.
 
-   Every function gives 0 for an accepted case, else the number of the first refusal that applies:
-   1 length, 2 digit, 3 substance, 4 setting, 5 quantity, 6 heat, 7 beyond, 8 space; for a ring 1 to 6, then 9 threshold, 10 weak, 11 strong.
+   Every function gives 0 for an accepted case, else the number of the first refusal that applies, in this order:
+   1 length, 2 digit, 3 substance, 12 state, 13 placement, 14 surroundings, 5 quantity, 6 heat; then for an answer 7 beyond, 8 space, for a
+   ring 9 threshold, 10 weak, 11 strong. 4, which stood for all of 12 to 14, is retired: no function gives it.
    After a refusal everything that was lent for writing has the bytes that it had.
 
    They use no heap, no file and no global state, so any number of threads can call them at once. */

@@ -1,4 +1,4 @@
--- Tests 3 to 6: the values of each field, and a heat (document 01, "The case frame", "Refused cases").
+-- Tests 3 to 6, with 12 to 14 in the place of 4: the values of each field, and a heat (document 01, "The case frame", "Refused cases"; request 2).
 use Prim.Native.Nat.{ℕ}
 use mathlib.Core.Bool.{Bool, not, _&&_, _||_}
 use mathlib.Core.List.{List, [], _∷_}
@@ -7,15 +7,12 @@ use Rattle.hexadecimals.specs.Digits.{within}
 use Rattle.guidance.specs.declared.Case.{Case}
 use Rattle.guidance.specs.Substances.{betaOf}
 use Rattle.refusals.specs.declared.Fault.{Fault}
-use Rattle.refusals.specs.declared.Fault.the-variants.{Substance, Setting, Quantity, Heat}
+use Rattle.refusals.specs.declared.Fault.the-variants.{Substance, State, Placement, Surroundings, Quantity, Heat}
 use Rattle.refusals.specs.Order.{Test, _when_}
 
 -- x is none of the values least to most
 abbrev pub outside : (least most x : ℕ) → Bool
 outside least most x = not (within least most x)
-
-unfoldable pub settingOutside : Case → Bool
-settingOutside c = outside 0 1 (c .state) || outside 0 1 (c .placement) || outside 1 4 (c .surroundings)
 
 unfoldable pub quantityOutside : Case → Bool
 quantityOutside c =
@@ -30,10 +27,13 @@ quantityOutside c =
 unfoldable pub heatMissing : Case → Bool
 heatMissing c = eqb (c .heat) 0 && eqb (betaOf (c .substance)) 0
 
+-- in the order of the tests, the three settings in that of the frame
 unfoldable pub fieldTests : Case → List (Test Fault)
 fieldTests c =
     (Substance when outside 0 75 (c .substance))
-    ∷ (Setting when settingOutside c)
+    ∷ (State when outside 0 1 (c .state))
+    ∷ (Placement when outside 0 1 (c .placement))
+    ∷ (Surroundings when outside 1 4 (c .surroundings))
     ∷ (Quantity when quantityOutside c)
     ∷ (Heat when heatMissing c)
     ∷ []

@@ -1,7 +1,7 @@
-// Tests 3 to 6: whether each field of a case holds one of its values, and whether the case has a heat.
+// Tests 3 to 6, with 12 to 14 in the place of 4: whether each field of a case holds one of its values, and whether the case has a heat.
 ghost use mathlib.Core.Path.{_≡_};
 ghost use mathlib.Core.Bool.{_||_};
-ghost use Rattle.limits.specs.Tests.{outside, settingOutside, quantityOutside, heatMissing};
+ghost use Rattle.limits.specs.Tests.{outside, quantityOutside, heatMissing};
 ghost use Rattle.limits.specs.Checks.{caseChecked};
 use guidance::Case;
 use refusals::Fault;
@@ -23,15 +23,6 @@ pub fn is_outside(least: u64, most: u64, x: u64) -> bool
     ensures { λ r. ⌜ r ≡ outside least most x ⌝ }
 {
     if least <= x { !(x <= most) } else { true }
-}
-
-fn setting_outside(c: Case) -> bool
-    ensures { λ r. ⌜ r ≡ settingOutside c ⌝ }
-{
-    let state = is_outside(0, 1, c.state);
-    let placement = is_outside(0, 1, c.placement);
-    let surroundings = is_outside(1, 4, c.surroundings);
-    either(either(state, placement), surroundings)
 }
 
 fn quantity_outside(c: Case) -> bool
@@ -65,8 +56,14 @@ pub fn check(c: Case) -> Checked
     if is_outside(0, 75, c.substance) {
         return Checked::Unsound(Fault::Substance);
     }
-    if setting_outside(c) {
-        return Checked::Unsound(Fault::Setting);
+    if is_outside(0, 1, c.state) {
+        return Checked::Unsound(Fault::State);
+    }
+    if is_outside(0, 1, c.placement) {
+        return Checked::Unsound(Fault::Placement);
+    }
+    if is_outside(1, 4, c.surroundings) {
+        return Checked::Unsound(Fault::Surroundings);
     }
     if quantity_outside(c) {
         return Checked::Unsound(Fault::Quantity);

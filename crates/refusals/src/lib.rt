@@ -2,12 +2,14 @@
 ghost use mathlib.Core.Path.{_≡_};
 ghost use Rattle.refusals.specs.Faults.{number, filled, word};
 
-// What is wrong with a case itself, in the order of tests 1 to 6.
+// What is wrong with a case itself, in the order of the tests.
 pub enum Fault {
     Length,
     Digit,
     Substance,
-    Setting,
+    State,
+    Placement,
+    Surroundings,
     Quantity,
     Heat,
 }
@@ -19,7 +21,9 @@ pub fn number_of(f: Fault) -> u64
         Fault::Length => 1,
         Fault::Digit => 2,
         Fault::Substance => 3,
-        Fault::Setting => 4,
+        Fault::State => 12,
+        Fault::Placement => 13,
+        Fault::Surroundings => 14,
         Fault::Quantity => 5,
         Fault::Heat => 6,
     }
@@ -33,7 +37,9 @@ pub fn word_of(f: Fault) -> [u8; 12]
         Fault::Length => *b"length\0\0\0\0\0\0",
         Fault::Digit => *b"digit\0\0\0\0\0\0\0",
         Fault::Substance => *b"substance\0\0\0",
-        Fault::Setting => *b"setting\0\0\0\0\0",
+        Fault::State => *b"state\0\0\0\0\0\0\0",
+        Fault::Placement => *b"placement\0\0\0",
+        Fault::Surroundings => *b"surroundings",
         Fault::Quantity => *b"quantity\0\0\0\0",
         Fault::Heat => *b"heat\0\0\0\0\0\0\0\0",
     }

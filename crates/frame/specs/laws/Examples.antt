@@ -1,4 +1,4 @@
--- Lines and their verdicts, by computation: document 01's three lines, the propane line in either letter case, and two faults at once. Assumes nothing.
+-- Lines and frames and their verdicts, by computation: document 01's three lines, the propane line in either letter case, and several faults at once. Assumes nothing.
 use Prim.Native.Nat.{ℕ}
 use mathlib.Core.Path.{_≡_, refl}
 use mathlib.Core.List.{List, [], _∷_}
@@ -9,13 +9,13 @@ use Rattle.guidance.specs.declared.Case.{Case}
 use Rattle.guidance.specs.Substances.{betas, betaOf, classOf, heatOf}
 use Rattle.guidance.specs.Clouds.{atLeast1, rangeOf, groundFactor, leanBy, leanFactor, aerosolFactor, energy}
 use Rattle.guidance.specs.Distances.{less, metres, cubed, farther, cube24}
-use Rattle.refusals.specs.declared.Fault.the-variants.{Length, Digit, Setting, Heat}
+use Rattle.refusals.specs.declared.Fault.the-variants.{Length, Digit, State, Placement, Surroundings, Quantity, Heat}
 use Rattle.frame.specs.declared.Refusal.the-variants.{Faulty}
 use Rattle.frame.specs.declared.Verdict.the-variants.{Accepted, Refused}
 use Rattle.fields.specs.Bytes.{fieldsOf}
 use Rattle.hexadecimals.specs.Digits.{digitOf, allDigits, bytesOf}
 use Rattle.refusals.specs.Order.{firstOf, held}
-use Rattle.limits.specs.Tests.{settingOutside, quantityOutside, heatMissing, fieldTests}
+use Rattle.limits.specs.Tests.{quantityOutside, heatMissing, fieldTests}
 use Rattle.frame.specs.Tests.{frameTests, lineTests}
 use Rattle.frame.specs.Verdicts.{lastTests, frameVerdict, lineVerdict}
 
@@ -23,6 +23,14 @@ use Rattle.frame.specs.Verdicts.{lastTests, frameVerdict, lineVerdict}
 abbrev pub thirdLine : List ℕ
 thirdLine =
     48 ∷ 48 ∷ 48 ∷ 48 ∷ 48 ∷ 48 ∷ 48 ∷ 49 ∷ 48 ∷ 48 ∷ 48
+    ∷ 48 ∷ 48 ∷ 48 ∷ 54 ∷ 52 ∷ 48 ∷ 48 ∷ 48 ∷ 49 ∷ 48 ∷ 48
+    ∷ 48 ∷ 49 ∷ 48 ∷ 48 ∷ 48 ∷ 48 ∷ 48 ∷ 48 ∷ 48 ∷ 48 ∷ 48
+    ∷ 48 ∷ 48 ∷ 48 ∷ 48 ∷ 48 ∷ 54 ∷ 52 ∷ 48 ∷ 48 ∷ 52 ∷ 54 ∷ []
+
+-- the same with a placement of 2
+abbrev pub placementLine : List ℕ
+placementLine =
+    48 ∷ 48 ∷ 48 ∷ 48 ∷ 48 ∷ 50 ∷ 48 ∷ 49 ∷ 48 ∷ 48 ∷ 48
     ∷ 48 ∷ 48 ∷ 48 ∷ 54 ∷ 52 ∷ 48 ∷ 48 ∷ 48 ∷ 49 ∷ 48 ∷ 48
     ∷ 48 ∷ 49 ∷ 48 ∷ 48 ∷ 48 ∷ 48 ∷ 48 ∷ 48 ∷ 48 ∷ 48 ∷ 48
     ∷ 48 ∷ 48 ∷ 48 ∷ 48 ∷ 48 ∷ 54 ∷ 52 ∷ 48 ∷ 48 ∷ 52 ∷ 54 ∷ []
@@ -59,9 +67,11 @@ propane =
       body = 70;
     }
 
--- surroundings 5, and besides a distance of 0
-abbrev pub twoFaults : List ℕ
-twoFaults = 0 ∷ 0 ∷ 0 ∷ 5 ∷ 0 ∷ 0 ∷ 0 ∷ 100 ∷ 0 ∷ 1 ∷ 0 ∷ 1 ∷ 0 ∷ 0 ∷ 3 ∷ 245 ∷ 0 ∷ 0 ∷ 0 ∷ 0 ∷ 0 ∷ 70 ∷ []
+-- three settings, and a distance of 0
+abbrev pub settings : (state placement surroundings : ℕ) → List ℕ
+settings state placement surroundings =
+    0 ∷ state ∷ placement ∷ surroundings ∷ 0 ∷ 0 ∷ 0 ∷ 100 ∷ 0 ∷ 1 ∷ 0
+    ∷ 1 ∷ 0 ∷ 0 ∷ 3 ∷ 245 ∷ 0 ∷ 0 ∷ 0 ∷ 0 ∷ 0 ∷ 70 ∷ []
 
 pub record Examples : Type 0 where
   pub empty-line : lineVerdict [] 77 ≡ Refused (Faulty Length)
@@ -69,10 +79,15 @@ pub record Examples : Type 0 where
   pub third-line : lineVerdict thirdLine 77 ≡ Refused (Faulty Heat)
   pub propane-line : lineVerdict propaneLine 77 ≡ Accepted propane
   pub propane-small : lineVerdict propaneSmall 77 ≡ Accepted propane
-  pub setting-first : frameVerdict twoFaults 77 ≡ Refused (Faulty Setting)
+  pub placement-line : lineVerdict placementLine 77 ≡ Refused (Faulty Placement)
+  -- the first wrong byte in the frame's order, then the distance
+  pub state-first : frameVerdict (settings 2 2 5) 77 ≡ Refused (Faulty State)
+  pub placement-next : frameVerdict (settings 1 2 0) 77 ≡ Refused (Faulty Placement)
+  pub surroundings-last : frameVerdict (settings 1 1 5) 77 ≡ Refused (Faulty Surroundings)
+  pub quantity-after : frameVerdict (settings 1 1 4) 77 ≡ Refused (Faulty Quantity)
 
 pub examples : Examples
-unfolding frameVerdict lineVerdict firstOf held frameTests lineTests fieldTests lastTests settingOutside quantityOutside heatMissing fieldsOf digitOf allDigits bytesOf farther less cubed metres cube24 power whole _⊗_ energy groundFactor leanFactor leanBy decLe aerosolFactor heatOf betas betaOf rangeOf classOf atLeast1
+unfolding frameVerdict lineVerdict firstOf held frameTests lineTests fieldTests lastTests quantityOutside heatMissing fieldsOf digitOf allDigits bytesOf farther less cubed metres cube24 power whole _⊗_ energy groundFactor leanFactor leanBy decLe aerosolFactor heatOf betas betaOf rangeOf classOf atLeast1
 examples =
     record {
       empty-line = refl;
@@ -80,5 +95,9 @@ examples =
       third-line = refl;
       propane-line = refl;
       propane-small = refl;
-      setting-first = refl;
+      placement-line = refl;
+      state-first = refl;
+      placement-next = refl;
+      surroundings-last = refl;
+      quantity-after = refl;
     }

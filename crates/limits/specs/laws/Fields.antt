@@ -11,7 +11,7 @@ use Rattle.guidance.specs.Cases.{Fields}
 use Rattle.guidance.specs.CloudWords.{Heated}
 use Rattle.refusals.specs.laws.Order.{neither, Passed}
 use Rattle.limits.specs.laws.Limits.{inside}
-use Rattle.limits.specs.Tests.{outside, settingOutside, quantityOutside, heatMissing, fieldTests}
+use Rattle.limits.specs.Tests.{outside, quantityOutside, heatMissing, fieldTests}
 
 -- no heat is a heat of 0
 no-product : (n : ℕ) → eqb n 0 ≡ eqb (440 * n) 0
@@ -29,28 +29,25 @@ heat-missing c = no-heat (c .substance) (c .heat)
 
 module _ (c : Case) (p : Passed (fieldTests c)) where
   pub fields : Fields c
-  unfolding fieldTests settingOutside quantityOutside
+  unfolding fieldTests quantityOutside
   fields =
-      let state = outside 0 1 (c .state) in
-      let placement = outside 0 1 (c .placement) in
+      let surroundings = p .1 .1 .1 .0 in
       let mass = outside 1 1000000000 (c .mass) in
       let mean = outside 1 50000 (c .mean) in
       let stoichiometric = outside 1 50000 (c .stoichiometric) in
       let heat = outside 0 150000 (c .heat) in
       let distance = outside 1 1000000 (c .distance) in
-      let s2 = neither (state || placement) (outside 1 4 (c .surroundings)) (p .1 .0) in
-      let s1 = neither state placement (s2 .0) in
-      let q5 = neither (mass || mean || stoichiometric || heat || distance) (outside 1 500 (c .body)) (p .1 .1 .0) in
+      let q5 = neither (mass || mean || stoichiometric || heat || distance) (outside 1 500 (c .body)) (p .1 .1 .1 .1 .0) in
       let q4 = neither (mass || mean || stoichiometric || heat) distance (q5 .0) in
       let q3 = neither (mass || mean || stoichiometric) heat (q4 .0) in
       let q2 = neither (mass || mean) stoichiometric (q3 .0) in
       let q1 = neither mass mean (q2 .0) in
       record {
         substance = inside 0 75 (c .substance) (p .0) .1;
-        state = inside 0 1 (c .state) (s1 .0) .1;
-        placement = inside 0 1 (c .placement) (s1 .1) .1;
-        surroundings = inside 1 4 (c .surroundings) (s2 .1) .0;
-        surroundings-most = inside 1 4 (c .surroundings) (s2 .1) .1;
+        state = inside 0 1 (c .state) (p .1 .0) .1;
+        placement = inside 0 1 (c .placement) (p .1 .1 .0) .1;
+        surroundings = inside 1 4 (c .surroundings) surroundings .0;
+        surroundings-most = inside 1 4 (c .surroundings) surroundings .1;
         mass = inside 1 1000000000 (c .mass) (q1 .0) .0;
         mass-most = inside 1 1000000000 (c .mass) (q1 .0) .1;
         mean = inside 1 50000 (c .mean) (q1 .1) .0;
@@ -69,5 +66,5 @@ module _ (c : Case) (p : Passed (fieldTests c)) where
   heated =
       record {
         fields = fields;
-        heat = let n = eqb-false (heatOf (c .substance) (c .heat)) 0 (sym (heat-missing c) ∙ p .1 .1 .1 .0) in omega arith;
+        heat = let n = eqb-false (heatOf (c .substance) (c .heat)) 0 (sym (heat-missing c) ∙ p .1 .1 .1 .1 .1 .0) in omega arith;
       }

@@ -21,6 +21,12 @@ enum-told-5 c = search needs
 enum-told-6 : tie.Need-enum-told-6
 enum-told-6 c = search needs
 
+enum-told-7 : tie.Need-enum-told-7
+enum-told-7 c = search needs
+
+enum-told-8 : tie.Need-enum-told-8
+enum-told-8 c = search needs
+
 returns : tie.Need-returns
 returns c = rw (c .before .before .enum-told .given .1)
 
@@ -39,6 +45,12 @@ returns-5 c = rw (c .before .before .enum-told5 .given .1)
 returns-6 : tie.Need-returns-6
 returns-6 c = rw (c .before .before .enum-told6 .given .1)
 
+returns-7 : tie.Need-returns-7
+returns-7 c = rw (c .before .before .enum-told7 .given .1)
+
+returns-8 : tie.Need-returns-8
+returns-8 c = rw (c .before .before .enum-told8 .given .1)
+
 pub word-of-spec : {M : Type 1} → statement M
 word-of-spec =
     tie.close
@@ -49,9 +61,13 @@ word-of-spec =
     enum-told-4
     enum-told-5
     enum-told-6
+    enum-told-7
+    enum-told-8
     returns
     returns-2
     returns-3
     returns-4
     returns-5
-    returns-6)
+    returns-6
+    returns-7
+    returns-8)

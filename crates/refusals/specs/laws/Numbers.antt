@@ -5,12 +5,12 @@ use mathlib.Core.Bool.{Bool, true, false, true≢false, _||_}
 use mathlib.Core.List.{List, [], _∷_}
 use lib.Dec.{eqb}
 use Rattle.refusals.specs.declared.Fault.{Fault}
-use Rattle.refusals.specs.declared.Fault.the-variants.{Length, Digit, Substance, Setting, Quantity, Heat}
+use Rattle.refusals.specs.declared.Fault.the-variants.{Length, Digit, Substance, State, Placement, Surroundings, Quantity, Heat}
 use Rattle.refusals.specs.Faults.{number}
 
 -- in the order of the tests
 abbrev pub numbers : List ℕ
-numbers = 1 ∷ 2 ∷ 3 ∷ 4 ∷ 5 ∷ 6 ∷ []
+numbers = 1 ∷ 2 ∷ 3 ∷ 12 ∷ 13 ∷ 14 ∷ 5 ∷ 6 ∷ []
 
 abbrev pub among : List ℕ → ℕ → Bool
 among [] n = false
@@ -20,7 +20,9 @@ fault-among : (f : Fault) → among numbers (number f) ≡ true
 fault-among Length = refl
 fault-among Digit = refl
 fault-among Substance = refl
-fault-among Setting = refl
+fault-among State = refl
+fault-among Placement = refl
+fault-among Surroundings = refl
 fault-among Quantity = refl
 fault-among Heat = refl
 

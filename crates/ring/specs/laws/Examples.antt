@@ -9,12 +9,12 @@ use Rattle.guidance.specs.Substances.{betas, betaOf, classOf, heatOf}
 use Rattle.guidance.specs.Clouds.{atLeast1, rangeOf, groundFactor, leanBy, leanFactor, aerosolFactor, energy}
 use Rattle.guidance.specs.Distances.{less, metres, cubed, farther, cube24}
 use Rattle.guidance.specs.Waves.{standardAir}
-use Rattle.refusals.specs.declared.Fault.the-variants.{Setting}
+use Rattle.refusals.specs.declared.Fault.the-variants.{Surroundings}
 use Rattle.refusals.specs.Order.{firstOf, held}
 use Rattle.fields.specs.Bytes.{fieldsOf}
-use Rattle.limits.specs.Tests.{settingOutside, quantityOutside, heatMissing, fieldTests}
+use Rattle.limits.specs.Tests.{quantityOutside, heatMissing, fieldTests}
 use Rattle.frame.specs.Tests.{frameTests}
-use Rattle.frame.specs.laws.Examples.{twoFaults}
+use Rattle.frame.specs.laws.Examples.{settings}
 use Rattle.answer.specs.KnownCases.{q, propane}
 use Rattle.receptor.specs.Receptor.{moved, farthest}
 use Rattle.receptor.specs.laws.Moved.{beyond-farther}
@@ -27,7 +27,7 @@ pub record Examples : Type 0 where
   pub threshold-1 : firstOf (tests (frameTests propane) standardAir 1) ≡ none
   pub greatest-threshold : firstOf (tests (frameTests propane) standardAir 1823400) ≡ none
   pub past-the-greatest : firstOf (tests (frameTests propane) standardAir 1823401) ≡ some Threshold
-  pub setting-first : firstOf (tests (frameTests twoFaults) standardAir 0) ≡ some (Faulty Setting)
+  pub surroundings-first : firstOf (tests (frameTests (settings 0 0 5)) standardAir 0) ≡ some (Faulty Surroundings)
   -- at 2401 cm Q is beyond, and its rings are asked for all the same
   pub own-distance-beyond : firstOf (tests (frameTests (q 0 2401)) standardAir 5000) ≡ none
   pub q-farthest : farthest standardAir (fieldsOf (q 0 2401)) ≡ 2400
@@ -41,14 +41,14 @@ unfolding fieldsOf moved farther less cubed metres cube24 power whole _⊗_ ener
 beyond = refl
 
 pub examples : Examples
-unfolding tests lastTests firstOf held frameTests fieldTests settingOutside quantityOutside heatMissing fieldsOf betas betaOf
+unfolding tests lastTests firstOf held frameTests fieldTests quantityOutside heatMissing fieldsOf betas betaOf
 examples =
     record {
       threshold-0 = refl;
       threshold-1 = refl;
       greatest-threshold = refl;
       past-the-greatest = refl;
-      setting-first = refl;
+      surroundings-first = refl;
       own-distance-beyond = refl;
       q-farthest = sym (last-is standardAir _ 1000000 2400 (omega arith) within (λ e f g. beyond-farther _ standardAir f beyond));
     }

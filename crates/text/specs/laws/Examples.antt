@@ -3,13 +3,13 @@ use Prim.Native.Nat.{ℕ}
 use mathlib.Core.Path.{_≡_, refl}
 use mathlib.Core.List.{List, [], _∷_, _++_}
 use lib.ListN.{replicate}
-use Rattle.refusals.specs.declared.Fault.the-variants.{Length, Digit, Heat}
+use Rattle.refusals.specs.declared.Fault.the-variants.{Length, Digit, Placement, Heat}
 use Rattle.frame.specs.declared.Refusal.{Refusal}
 use Rattle.frame.specs.declared.Refusal.the-variants.{Faulty}
 use Rattle.frame.specs.declared.Verdict.the-variants.{Refused}
 use Rattle.frame.specs.Refusals.{number}
 use Rattle.frame.specs.Verdicts.{lineVerdict}
-use Rattle.frame.specs.laws.Examples.{thirdLine, examples}
+use Rattle.frame.specs.laws.Examples.{thirdLine, placementLine, examples}
 use Rattle.text.specs.Lines.{lf, ended, left, lastLine, linesOf}
 use Rattle.text.specs.Digits.{places, decimal, upper, hexadecimal}
 use Rattle.text.specs.Records.{said, Answers, Record, Text}
@@ -63,3 +63,8 @@ three-records
     (49 ∷ 32 ∷ 82 ∷ 49 ∷ lf ∷ 50 ∷ 32 ∷ 82 ∷ 50 ∷ lf ∷ 51 ∷ 32 ∷ 82 ∷ 54 ∷ lf ∷ [])
 unfolding linesOf ended left lastLine decimal places
 three-records = one (refused 1 (Faulty Length) (examples .empty-line)) (one (refused 2 (Faulty Digit) (examples .letters-G)) (one (refused 3 (Faulty Heat) (examples .third-line)) none))
+
+-- a number of two digits stands whole: 7 R13
+seventh-record : Record 7 placementLine (55 ∷ 32 ∷ 82 ∷ 49 ∷ 51 ∷ lf ∷ [])
+unfolding decimal places
+seventh-record = refused 7 (Faulty Placement) (examples .placement-line)

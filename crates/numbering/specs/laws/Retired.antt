@@ -1,0 +1,17 @@
+-- No refusal of any entry has the number 4 (request 2). Assumes nothing.
+use mathlib.Core.Path.{_≡_, refl}
+use native.Mathlib.Omega.{arith}
+use Rattle.refusals.specs.laws.Numbers.{no-fault}
+use Rattle.frame.specs.declared.Refusal.the-variants as answers
+use Rattle.ring.specs.declared.Refusal.the-variants as rings
+use Rattle.numbering.specs.Entries.{Refused, number}
+use Rattle.numbering.specs.Entries.Refused.{answer, ring}
+
+pub retired : (r : Refused) → number r ≡ 4 → ⊥
+retired (answer (answers.Faulty f)) = no-fault 4 refl f
+retired (answer answers.Beyond) = λ e. omega arith
+retired (answer answers.Space) = λ e. omega arith
+retired (ring (rings.Faulty f)) = no-fault 4 refl f
+retired (ring rings.Threshold) = λ e. omega arith
+retired (ring rings.Weak) = λ e. omega arith
+retired (ring rings.Strong) = λ e. omega arith
