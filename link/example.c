@@ -1,5 +1,5 @@
 /* Calls Yakepuhi from C: a case as a line and as a frame's bytes, its overpressure and its impulse alone, its rings,
-   a wrong line, a wrong setting and an area that is too short, each printed in readable form. */
+   what every refusal is called, each printed in readable form. */
 #include "yakepuhi.h"
 
 #include <inttypes.h>
@@ -79,6 +79,18 @@ int main(void)
     /* 8 t of propane on the ground, 100 m away */
     static const char line[] = "11000104007A1200057803020000B540000027100046";
     static const uint8_t frame[YAKEPUHI_FRAME] = { 0x11, 0, 1, 4, 0, 0x7A, 0x12, 0, 5, 0x78, 3, 2, 0, 0, 0xB5, 0x40, 0, 0, 0x27, 0x10, 0, 0x46 };
+    /* the same case, each time with one thing wrong */
+    static const struct { const char *title, *line; } wrong[] = {
+        { "one character less", "11000104007A1200057803020000B54000002710004" },
+        { "a G", "11000104007A1200057803020000B54000002710004G" },
+        { "substance 76", "4C000104007A1200057803020000B540000027100046" },
+        { "state 2", "11020104007A1200057803020000B540000027100046" },
+        { "placement 2", "11000204007A1200057803020000B540000027100046" },
+        { "surroundings 5", "11000105007A1200057803020000B540000027100046" },
+        { "body mass 0", "11000104007A1200057803020000B540000027100000" },
+        { "unlisted, without a heat", "00000104007A12000578030200000000000027100046" },
+        { "at 10 km", "11000104007A1200057803020000B540000F42400046" },
+    };
     uint64_t lower = 0, upper = 0;
     ask("a case", line, AREA);
     ask_frame("the same from its bytes", frame, sizeof frame);
@@ -88,10 +100,11 @@ int main(void)
     printf("its impulse alone: %s\n  %" PRIu64 " to %" PRIu64 " Pa s\n", words[refusal], lower, upper);
     ask_ring(line, frame, 28000);
     ask_ring(line, frame, 5000);
+    ask_ring(line, frame, 1000);
     ask_ring(line, frame, YAKEPUHI_THRESHOLD);
     ask_ring(line, frame, YAKEPUHI_THRESHOLD + 1);
-    ask("a wrong line", "11000104007A1200057803020000B54000002710004G", YAKEPUHI_ANSWER);
-    ask("a wrong setting", "11000204007A1200057803020000B540000027100046", YAKEPUHI_ANSWER);
-    ask("a short area", line, YAKEPUHI_ANSWER - 1);
+    for (size_t i = 0; i < sizeof wrong / sizeof *wrong; i++)
+        ask(wrong[i].title, wrong[i].line, AREA);
+    ask("an area of 76 bytes", line, YAKEPUHI_ANSWER - 1);
     return 0;
 }

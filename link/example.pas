@@ -1,5 +1,5 @@
 { Calls Yakepuhi from Free Pascal: a case as a line and as a frame's bytes, its overpressure and its impulse alone, its rings,
-  a wrong line, a wrong setting and an area that is too short, each printed in readable form. }
+  what every refusal is called, each printed in readable form. }
 program example;
 
 {$mode objfpc}{$H+}
@@ -16,6 +16,17 @@ const
   { 8 t of propane on the ground, 100 m away }
   Line = '11000104007A1200057803020000B540000027100046';
   Frame: array[0..21] of Byte = ($11, 0, 1, 4, 0, $7A, $12, 0, 5, $78, 3, 2, 0, 0, $B5, $40, 0, 0, $27, $10, 0, $46);
+  { the same case, each time with one thing wrong }
+  Wrong: array[1..9, 0..1] of string = (
+    ('one character less', '11000104007A1200057803020000B54000002710004'),
+    ('a G', '11000104007A1200057803020000B54000002710004G'),
+    ('substance 76', '4C000104007A1200057803020000B540000027100046'),
+    ('state 2', '11020104007A1200057803020000B540000027100046'),
+    ('placement 2', '11000204007A1200057803020000B540000027100046'),
+    ('surroundings 5', '11000105007A1200057803020000B540000027100046'),
+    ('body mass 0', '11000104007A1200057803020000B540000027100000'),
+    ('unlisted, without a heat', '00000104007A12000578030200000000000027100046'),
+    ('at 10 km', '11000104007A1200057803020000B540000F42400046'));
 
 type
   TArea = array[0..AnswerBytes + 2] of Byte;
@@ -126,6 +137,7 @@ end;
 
 var
   lower, upper, refusal: QWord;
+  i: Integer;
 begin
   lower := 0;
   upper := 0;
@@ -139,9 +151,10 @@ begin
   WriteLn('  ', lower, ' to ', upper, ' Pa s');
   AskRing(Line, @Frame[0], SizeOf(Frame), 28000);
   AskRing(Line, @Frame[0], SizeOf(Frame), 5000);
+  AskRing(Line, @Frame[0], SizeOf(Frame), 1000);
   AskRing(Line, @Frame[0], SizeOf(Frame), GreatestThreshold);
   AskRing(Line, @Frame[0], SizeOf(Frame), GreatestThreshold + 1);
-  Ask('a wrong line', Copy(Line, 1, 43) + 'G', AnswerBytes);
-  Ask('a wrong setting', '11000204007A1200057803020000B540000027100046', AnswerBytes);
-  Ask('a short area', Line, AnswerBytes - 1);
+  for i := Low(Wrong) to High(Wrong) do
+    Ask(Wrong[i, 0], Wrong[i, 1], AnswerBytes + 3);
+  Ask('an area of 76 bytes', Line, AnswerBytes - 1);
 end.

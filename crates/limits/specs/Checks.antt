@@ -1,4 +1,4 @@
--- What tests make of a case that look at nothing but the case itself.
+-- What the tests of a case alone make of it.
 use mathlib.Core.Path.{_≡_}
 use mathlib.Core.Option.{Option, none, some}
 use Rattle.guidance.specs.declared.Case.{Case}

@@ -6,7 +6,7 @@ ghost use Rattle.limits.specs.Checks.{caseChecked};
 use guidance::Case;
 use refusals::Fault;
 
-// What tests make of a case that look at nothing but the case itself.
+// What the tests of a case alone make of it.
 pub enum Checked {
     Sound(Case),
     Unsound(Fault),

@@ -1,3 +1,4 @@
 -- Laws of the definitions.
 pub mod Retired
+pub mod Returned
 pub mod Words

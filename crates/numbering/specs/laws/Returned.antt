@@ -1,0 +1,37 @@
+-- So no function for C returns 4: each returns 0 or a refusal's number. Assumes nothing.
+use Prim.Native.Nat.{ℕ}
+use mathlib.Core.Path.{_≡_, sym, _∙_}
+use mathlib.Core.List.{List}
+use native.Mathlib.Omega.{arith}
+use Rattle.exact.specs.Formula.{Formula}
+use Rattle.guidance.specs.declared.Case.{Case}
+use Rattle.frame.specs.declared.Verdict.{Verdict}
+use Rattle.frame.specs.declared.Verdict.the-variants.{Accepted, Refused}
+use Rattle.frame.specs.Refusals.{code}
+use Rattle.frame.specs.Verdicts.{answerLength, frameVerdict}
+use Rattle.ring.specs.declared.Answer as answers
+use Rattle.ring.specs.declared.Answer.the-variants as rings
+use Rattle.linked.specs.Codes.{Entered, FigureAnswered}
+use Rattle.linked.specs.Rings.{Given, Answered}
+use Rattle.numbering.specs.Entries.Refused.{answer, ring}
+use Rattle.numbering.specs.laws.Retired.{retired}
+
+code-retired : (v : Verdict) → code v ≡ 4 → ⊥
+code-retired (Accepted c) = λ e. omega arith
+code-retired (Refused r) = retired (answer r)
+
+-- a case's answer
+pub entered-not-4 : {v : Verdict} {n : ℕ} {before after : List ℕ} → Entered v n before after → n ≡ 4 → ⊥
+entered-not-4 {v} e h = code-retired v (sym (e .returned) ∙ h)
+
+-- a figure alone
+pub figure-not-4 : {x : Case → Formula} {frame : List ℕ} {lower upper n l u : ℕ} → FigureAnswered x frame lower upper n l u → n ≡ 4 → ⊥
+figure-not-4 {frame = frame} e h = code-retired (frameVerdict frame answerLength) (sym (e .returned) ∙ h)
+
+-- a ring
+given-not-4 : (a : answers.Answer) (inner outer n i o : ℕ) → Given a inner outer n i o → n ≡ 4 → ⊥
+given-not-4 (rings.Ring near far) inner outer n i o g h = let z = sym (g .number) ∙ h in omega arith
+given-not-4 (rings.Refused r) inner outer n i o g h = retired (ring r) (sym (g .number) ∙ h)
+
+pub ring-not-4 : {Fits : answers.Answer → Type 0} {inner outer n i o : ℕ} → Answered Fits inner outer n i o → n ≡ 4 → ⊥
+ring-not-4 a h = given-not-4 (a .answer) _ _ _ _ _ (a .given) h
