@@ -73,8 +73,9 @@ def decide(line, room=ANSWER):
     return decide_frame(bytes.fromhex(line.decode()), room)
 
 
-def decide_frame(frame, room=ANSWER):
-    substance, state, placement, around, mass, c, s, heat, r, body = case = fields(frame)
+def decide_case(case):
+    """The first of tests 3 to 6 that refuses the fields of a case, else 0."""
+    substance, state, placement, around, *quantities = case
     if substance > 75:
         return 3
     if state > 1:
@@ -83,12 +84,20 @@ def decide_frame(frame, room=ANSWER):
         return 13
     if not 1 <= around <= 4:
         return 14
-    if any(not low <= value <= high for value, (low, high) in zip(case[4:], LIMITS)):
+    if any(not low <= value <= high for value, (low, high) in zip(quantities, LIMITS)):
         return 5
-    if heat == 0 and SUBSTANCES[substance][1] is None:
+    if quantities[3] == 0 and SUBSTANCES[substance][1] is None:
         return 6
+    return 0
+
+
+def decide_frame(frame, room=ANSWER):
+    case = fields(frame)
+    refusal = decide_case(case)
+    if refusal:
+        return refusal
     speed, energy = cloud(case)
-    cube = Fraction(r, 100)**3 * P0 / energy
+    cube = Fraction(case[8], 100)**3 * P0 / energy
     if cube > 24**3:
         return 7
     if room < ANSWER:

@@ -1,5 +1,5 @@
 /* Calls Yakepuhi from C: a case as a line and as a frame's bytes, its overpressure and its impulse alone, its rings,
-   what every refusal is called, each printed in readable form. */
+   its line in the old form, what every refusal is called, each printed in readable form. */
 #include "yakepuhi.h"
 
 #include <inttypes.h>
@@ -7,8 +7,8 @@
 #include <string.h>
 
 /* by number; none is numbered 4 */
-static const char *const words[15] = { "accepted", "length", "digit", "substance", "", "quantity", "heat", "beyond", "space", "threshold", "weak", "strong",
-                                       "state", "placement", "surroundings" };
+static const char *const words[17] = { "accepted", "length", "digit", "substance", "", "quantity", "heat", "beyond", "space", "threshold", "weak", "strong",
+                                       "state", "placement", "surroundings", "tag", "double" };
 
 static uint32_t four(const uint8_t *b) { return (uint32_t)b[0] << 24 | (uint32_t)b[1] << 16 | (uint32_t)b[2] << 8 | b[3]; }
 static int32_t four_signed(const uint8_t *b) { return (int32_t)four(b); }
@@ -33,16 +33,22 @@ static void print_answer(const uint8_t a[YAKEPUHI_ANSWER])
 
 enum { AREA = YAKEPUHI_ANSWER + 3, MARK = 0xEE };
 
+/* How many bytes from one on kept their mark. */
+static void print_kept(const uint8_t *area, size_t from, size_t size)
+{
+    size_t kept = 0;
+    for (size_t i = from; i < size; i++)
+        kept += area[i] == MARK;
+    printf("  %zu bytes of the area kept\n", kept);
+}
+
 /* The verdict, the answer, and how many bytes past it kept their mark. */
 static void show(const char *title, uint64_t refusal, const uint8_t area[AREA])
 {
     printf("%s: %s\n", title, words[refusal]);
     if (refusal == 0)
         print_answer(area);
-    size_t kept = 0;
-    for (size_t i = refusal == 0 ? YAKEPUHI_ANSWER : 0; i < AREA; i++)
-        kept += area[i] == MARK;
-    printf("  %zu bytes of the area kept\n", kept);
+    print_kept(area, refusal == 0 ? YAKEPUHI_ANSWER : 0, AREA);
 }
 
 static void ask(const char *title, const char *line, size_t room)
@@ -72,6 +78,36 @@ static void ask_ring(const char *line, const uint8_t *frame, uint64_t threshold)
         printf("  %" PRIu64 " to %" PRIu64 " cm\n", inner, outer);
     else
         printf("  %d numbers kept\n", (inner == MARK) + (outer == MARK));
+}
+
+enum { OLD_AREA = YAKEPUHI_OLD + 4 };
+
+/* A frame's line in the old form, and the frame that is taken in from it. */
+static void ask_old(const char *title, const uint8_t *frame, size_t room)
+{
+    uint8_t area[OLD_AREA], again[OLD_AREA];
+    memset(area, MARK, sizeof area);
+    memset(again, MARK, sizeof again);
+    uint64_t refusal = yakepuhi_old_from_frame(frame, YAKEPUHI_FRAME, area, room);
+    printf("%s: %s\n", title, words[refusal]);
+    if (refusal == 0)
+        printf("  %.*s\n", YAKEPUHI_OLD, (const char *)area);
+    print_kept(area, refusal == 0 ? YAKEPUHI_OLD : 0, sizeof area);
+    if (refusal != 0)
+        return;
+    refusal = yakepuhi_frame_from_old(area, YAKEPUHI_OLD, again, sizeof again);
+    printf("taken in again: %s, %s\n", words[refusal], memcmp(frame, again, YAKEPUHI_FRAME) == 0 ? "the same frame" : "another frame");
+    print_kept(again, YAKEPUHI_FRAME, sizeof again);
+}
+
+/* An old line that has something wrong. */
+static void ask_old_line(const char *title, const char *line)
+{
+    uint8_t area[OLD_AREA];
+    memset(area, MARK, sizeof area);
+    uint64_t refusal = yakepuhi_frame_from_old((const uint8_t *)line, strlen(line), area, sizeof area);
+    printf("%s: %s\n", title, words[refusal]);
+    print_kept(area, 0, sizeof area);
 }
 
 int main(void)
@@ -106,5 +142,11 @@ int main(void)
     for (size_t i = 0; i < sizeof wrong / sizeof *wrong; i++)
         ask(wrong[i].title, wrong[i].line, AREA);
     ask("an area of 76 bytes", line, YAKEPUHI_ANSWER - 1);
+    ask_old("its old line", frame, OLD_AREA);
+    ask_old("its old line, an area of 115 bytes", frame, YAKEPUHI_OLD - 1);
+    ask_old_line("an old line with the tag 7 for 6",
+                 "11000104" "0140BF400000000000" "024061800000000000" "034053400000000000" "044047333333333333" "054059000000000000" "074051800000000000");
+    ask_old_line("an old line with a distance of -100 m",
+                 "11000104" "0140BF400000000000" "024061800000000000" "034053400000000000" "044047333333333333" "05C059000000000000" "064051800000000000");
     return 0;
 }

@@ -1,5 +1,5 @@
 { Calls Yakepuhi from Free Pascal: a case as a line and as a frame's bytes, its overpressure and its impulse alone, its rings,
-  what every refusal is called, each printed in readable form. }
+  its line in the old form, what every refusal is called, each printed in readable form. }
 program example;
 
 {$mode objfpc}{$H+}
@@ -8,11 +8,12 @@ program example;
 
 const
   AnswerBytes = 77;
+  OldCharacters = 116;
   Mark = $EE;
   GreatestThreshold = 1823400;
   { by number; none is numbered 4 }
-  Words: array[0..14] of string = ('accepted', 'length', 'digit', 'substance', '', 'quantity', 'heat', 'beyond', 'space', 'threshold', 'weak', 'strong',
-    'state', 'placement', 'surroundings');
+  Words: array[0..16] of string = ('accepted', 'length', 'digit', 'substance', '', 'quantity', 'heat', 'beyond', 'space', 'threshold', 'weak', 'strong',
+    'state', 'placement', 'surroundings', 'tag', 'double');
   { 8 t of propane on the ground, 100 m away }
   Line = '11000104007A1200057803020000B540000027100046';
   Frame: array[0..21] of Byte = ($11, 0, 1, 4, 0, $7A, $12, 0, 5, $78, 3, 2, 0, 0, $B5, $40, 0, 0, $27, $10, 0, $46);
@@ -30,6 +31,7 @@ const
 
 type
   TArea = array[0..AnswerBytes + 2] of Byte;
+  TOldArea = array[0..OldCharacters + 3] of Byte;
 
 { The promises of these are in yakepuhi.h. }
 function yakepuhi_from_line(line: PByte; lineLength: SizeUInt; area: PByte; areaLength: SizeUInt): QWord; cdecl; external;
@@ -38,6 +40,8 @@ function yakepuhi_overpressure(frame: PByte; frameLength: SizeUInt; lower, upper
 function yakepuhi_impulse(frame: PByte; frameLength: SizeUInt; lower, upper: PQWord): QWord; cdecl; external;
 function yakepuhi_ring_from_frame(frame: PByte; frameLength: SizeUInt; threshold: QWord; inner, outer: PQWord): QWord; cdecl; external;
 function yakepuhi_ring_from_line(line: PByte; lineLength: SizeUInt; threshold: QWord; inner, outer: PQWord): QWord; cdecl; external;
+function yakepuhi_frame_from_old(line: PByte; lineLength: SizeUInt; area: PByte; areaLength: SizeUInt): QWord; cdecl; external;
+function yakepuhi_old_from_frame(frame: PByte; frameLength: SizeUInt; area: PByte; areaLength: SizeUInt): QWord; cdecl; external;
 
 function Two(const a: TArea; at: Integer): LongWord;
 begin
@@ -77,10 +81,21 @@ begin
       ', damage ', Percent(Two(a, 57 + 4 * i)), ' to ', Percent(Two(a, 59 + 4 * i)), ' %');
 end;
 
+{ How many bytes from one on kept their mark. }
+procedure PrintKept(const area: array of Byte; from: Integer);
+var
+  i, kept: Integer;
+begin
+  kept := 0;
+  for i := from to High(area) do
+    if area[i] = Mark then Inc(kept);
+  WriteLn('  ', kept, ' bytes of the area kept');
+end;
+
 { The verdict, the answer, and how many bytes past it kept their mark. }
 procedure Show(const title: string; refusal: QWord; const area: TArea);
 var
-  i, first, kept: Integer;
+  first: Integer;
 begin
   WriteLn(title, ': ', Words[refusal]);
   first := 0;
@@ -89,10 +104,7 @@ begin
     PrintAnswer(area);
     first := AnswerBytes;
   end;
-  kept := 0;
-  for i := first to High(area) do
-    if area[i] = Mark then Inc(kept);
-  WriteLn('  ', kept, ' bytes of the area kept');
+  PrintKept(area, first);
 end;
 
 procedure Ask(const title, text: string; room: SizeUInt);
@@ -135,6 +147,44 @@ begin
     WriteLn('  ', Ord(inner = Mark) + Ord(outer = Mark), ' numbers kept');
 end;
 
+{ A frame's line in the old form, and the frame that is taken in from it. }
+procedure AskOld(const title: string; bytes: PByte; count, room: SizeUInt);
+var
+  area, again: TOldArea;
+  refusal: QWord;
+  text, other: string;
+begin
+  FillChar(area, SizeOf(area), Mark);
+  FillChar(again, SizeOf(again), Mark);
+  refusal := yakepuhi_old_from_frame(bytes, count, @area[0], room);
+  WriteLn(title, ': ', Words[refusal]);
+  if refusal <> 0 then
+  begin
+    PrintKept(area, 0);
+    Exit;
+  end;
+  SetString(text, PChar(@area[0]), OldCharacters);
+  WriteLn('  ', text);
+  PrintKept(area, OldCharacters);
+  refusal := yakepuhi_frame_from_old(@area[0], OldCharacters, @again[0], SizeOf(again));
+  other := 'another frame';
+  if CompareByte(bytes^, again, count) = 0 then other := 'the same frame';
+  WriteLn('taken in again: ', Words[refusal], ', ', other);
+  PrintKept(again, count);
+end;
+
+{ An old line that has something wrong. }
+procedure AskOldLine(const title, text: string);
+var
+  area: TOldArea;
+  refusal: QWord;
+begin
+  FillChar(area, SizeOf(area), Mark);
+  refusal := yakepuhi_frame_from_old(PByte(PChar(text)), Length(text), @area[0], SizeOf(area));
+  WriteLn(title, ': ', Words[refusal]);
+  PrintKept(area, 0);
+end;
+
 var
   lower, upper, refusal: QWord;
   i: Integer;
@@ -157,4 +207,10 @@ begin
   for i := Low(Wrong) to High(Wrong) do
     Ask(Wrong[i, 0], Wrong[i, 1], AnswerBytes + 3);
   Ask('an area of 76 bytes', Line, AnswerBytes - 1);
+  AskOld('its old line', @Frame[0], SizeOf(Frame), OldCharacters + 4);
+  AskOld('its old line, an area of 115 bytes', @Frame[0], SizeOf(Frame), OldCharacters - 1);
+  AskOldLine('an old line with the tag 7 for 6',
+    '11000104' + '0140BF400000000000' + '024061800000000000' + '034053400000000000' + '044047333333333333' + '054059000000000000' + '074051800000000000');
+  AskOldLine('an old line with a distance of -100 m',
+    '11000104' + '0140BF400000000000' + '024061800000000000' + '034053400000000000' + '044047333333333333' + '05C059000000000000' + '064051800000000000');
 end.

@@ -5,8 +5,9 @@
    - no two of a call's pointers reach the same byte, and no other thread writes what they reach during the call.
 
    Every function gives 0 for an accepted case, else the number of the first refusal that applies, in this order:
-   1 length, 2 digit, 3 substance, 12 state, 13 placement, 14 surroundings, 5 quantity, 6 heat; then for an answer 7 beyond, 8 space, for a
-   ring 9 threshold, 10 weak, 11 strong. 4, which stood for all of 12 to 14, is retired: no function gives it.
+   1 length, 2 digit, for an old line 15 tag, 16 double, then 3 substance, 12 state, 13 placement, 14 surroundings, 5 quantity, 6 heat;
+   then for an answer 7 beyond, 8 space, for a ring 9 threshold, 10 weak, 11 strong, for the old form 8 space. 4, which stood for all of
+   12 to 14, is retired: no function gives it.
    After a refusal everything that was lent for writing has the bytes that it had.
 
    They use no heap, no file and no global state, so any number of threads can call them at once. */
@@ -57,6 +58,23 @@ uint64_t yakepuhi_ring_from_frame(const uint8_t *frame, size_t frame_length, uin
 
 /* The same for a case given as a line; it also gives 2. */
 uint64_t yakepuhi_ring_from_line(const uint8_t *line, size_t line_length, uint64_t threshold, uint64_t *inner, uint64_t *outer);
+
+/* The characters of an old line. */
+#define YAKEPUHI_OLD 116
+
+/* The frame of an old line: 58 bytes in hexadecimal digits of either letter case, without LF: substance, state, placement, surroundings,
+   then six fields of a tag byte, 1 to 6 in order, and a double, high byte first: mass in kg, mean and stoichiometric concentration in g/m3,
+   heat in MJ/kg, distance in m, body mass in kg. Accepted, it writes the frame's 22 bytes at the start of the area and no others. Each number
+   is the double's exact value times 1000, 10, 10, 1000, 100 or 1, rounded to a whole number, halves upward; minus zero is taken for zero.
+   15, tag: one of the six is not its field's. 16, double: one of the six is no finite number, is negative or exceeds 1,000,000,000.
+   3, 12 to 14, 5 and 6 look at the whole numbers, whatever their size; a positive heat that becomes 0 is a 5 too.
+   8: the area has fewer than 22 bytes. It never gives 7: the case may be beyond. */
+uint64_t yakepuhi_frame_from_old(const uint8_t *line, size_t line_length, uint8_t *area, size_t area_length);
+
+/* The old line of a case given as the bytes of a frame: accepted, it writes 116 upper-case digits at the start of the area and no other
+   bytes, each double the nearest to its fraction. Taken in again they give the frame that was given. 8: the area has fewer than 116 bytes.
+   It never gives 2, 7, 15 or 16. */
+uint64_t yakepuhi_old_from_frame(const uint8_t *frame, size_t frame_length, uint8_t *area, size_t area_length);
 
 #ifdef __cplusplus
 }

@@ -1,5 +1,5 @@
 -- From the numbers of an answer to the area that holds them. Assumes nothing.
-use mathlib.Core.Path.{_≡_, refl, sym, ap, _∙_, subst}
+use mathlib.Core.Path.{_≡_, sym, ap, _∙_, subst}
 use Prim.Native.Nat.{ℕ, _≤_}
 use mathlib.Core.List.{List, _++_}
 use native.Mathlib.Nat.{zero-add}
@@ -7,8 +7,8 @@ use native.Mathlib.Omega.{arith}
 use lib.ListN.{length, take, drop}
 use lib.Seq.{sets, sets-eq, length-sets, take-at, drop-at}
 use Rattle.guidance.specs.declared.Case.{Case}
-use Rattle.layout.specs.Bytes.{two, four, words, signeds, halves}
-use Rattle.layout.specs.Places.{answerBytes, rangeByte, waveBytes, probitOf, probitBytes, damageOf, damageBytes}
+use Rattle.layout.specs.laws.Places.{answer-length}
+use Rattle.layout.specs.Places.{answerBytes}
 use Rattle.layout.specs.Fitting.{Fit}
 use Rattle.answer.specs.declared.Figures.{Figures}
 use Rattle.answer.specs.Answer.{readings, Answer, Wrote}
@@ -30,8 +30,7 @@ abbrev bytes : Figures → List ℕ
 bytes f = answerBytes (f .range) (f .pressure) (f .impulse) (f .probits) (readings (f .probits))
 
 bytes-length : (f : Figures) → length (bytes f) ≡ 77
-unfolding answerBytes rangeByte waveBytes probitBytes probitOf damageBytes damageOf words signeds halves four two
-bytes-length f = refl
+bytes-length f = answer-length _ _ _ _ _
 
 at-start : (l vs : List ℕ) → length vs ≤ length l → sets l 0 vs ≡ vs ++ drop (length vs) l
 at-start l vs h = sets-eq vs l 0 (rw zero-add h) ∙ ap (λ (n : ℕ). vs ++ drop n l) (zero-add (length vs))

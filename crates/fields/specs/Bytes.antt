@@ -1,18 +1,8 @@
 -- The ten fields of a case frame of 22 bytes, numbers unsigned, high byte first (document 01, "The case frame").
-use Prim.Native.Nat.{ℕ, _+_, _*_}
-use mathlib.Core.List.{List}
-use lib.ListN.{getD}
+use Prim.Native.Nat.{ℕ}
+use mathlib.Core.List.{List, _++_}
+use Rattle.bytes.specs.Numbers.{oneAt, twoAt, fourAt, one, two, four}
 use Rattle.guidance.specs.declared.Case.{Case}
-
--- the number in the one, two or four bytes from a place on
-abbrev pub oneAt : List ℕ → ℕ → ℕ
-oneAt frame at = getD frame at 0
-
-abbrev pub twoAt : List ℕ → ℕ → ℕ
-twoAt frame at = 256 * oneAt frame at + oneAt frame (at + 1)
-
-abbrev pub fourAt : List ℕ → ℕ → ℕ
-fourAt frame at = 65536 * twoAt frame at + twoAt frame (at + 2)
 
 unfoldable pub fieldsOf : List ℕ → Case
 fieldsOf frame =
@@ -28,3 +18,18 @@ fieldsOf frame =
       distance = fourAt frame 16;
       body = twoAt frame 20;
     }
+
+-- substance and settings, a byte each
+unfoldable pub settings : (substance state placement surroundings : ℕ) → List ℕ
+settings substance state placement surroundings = one substance ++ one state ++ one placement ++ one surroundings
+
+-- the 22 bytes of a case
+unfoldable pub frameBytes : Case → List ℕ
+frameBytes c =
+    settings (c .substance) (c .state) (c .placement) (c .surroundings)
+    ++ four (c .mass)
+    ++ two (c .mean)
+    ++ two (c .stoichiometric)
+    ++ four (c .heat)
+    ++ four (c .distance)
+    ++ two (c .body)

@@ -1,29 +1,11 @@
-// The ten fields of a case frame, read from its 22 bytes.
+// The ten fields of a case frame: read from its 22 bytes, and written into them.
 ghost use mathlib.Core.Path.{_≡_};
-ghost use Prim.Native.Nat.{_+_, _<_};
+ghost use Prim.Native.Nat.{_≤_};
 ghost use lib.ListN.{length};
-ghost use Rattle.fields.specs.Bytes.{twoAt, fourAt, fieldsOf};
+ghost use lib.Seq.{sets};
+ghost use Rattle.bytes.specs.Storing.{Stored};
+ghost use Rattle.fields.specs.Bytes.{fieldsOf, settings, frameBytes};
 use guidance::Case;
-
-fn wide(x: u8) -> u64
-    ensures { λ r. ⌜ (r ≡ x) × (r < 256) ⌝ }
-{
-    x as u64
-}
-
-fn two(frame: &[u8], at: usize) -> u64
-    requires { ⌜ at + 1 < length (now frame) ⌝ }
-    ensures { λ r. ⌜ (r ≡ twoAt (now (frame .entry)) at) × (r < 65536) ⌝ }
-{
-    256 * wide(frame[at]) + wide(frame[at + 1])
-}
-
-fn four(frame: &[u8], at: usize) -> u64
-    requires { ⌜ at + 3 < length (now frame) ⌝ }
-    ensures { λ r. ⌜ r ≡ fourAt (now (frame .entry)) at ⌝ }
-{
-    65536 * two(frame, at) + two(frame, at + 2)
-}
 
 // The fields of a frame, whatever they hold.
 pub fn read(frame: &[u8]) -> Case
@@ -31,15 +13,40 @@ pub fn read(frame: &[u8]) -> Case
     ensures { λ r. ⌜ r ≡ fieldsOf (now (frame .entry)) ⌝ }
 {
     Case {
-        substance: wide(frame[0]),
-        state: wide(frame[1]),
-        placement: wide(frame[2]),
-        surroundings: wide(frame[3]),
-        mass: four(frame, 4),
-        mean: two(frame, 8),
-        stoichiometric: two(frame, 10),
-        heat: four(frame, 12),
-        distance: four(frame, 16),
-        body: two(frame, 20),
+        substance: bytes::one_at(frame, 0),
+        state: bytes::one_at(frame, 1),
+        placement: bytes::one_at(frame, 2),
+        surroundings: bytes::one_at(frame, 3),
+        mass: bytes::four_at(frame, 4),
+        mean: bytes::two_at(frame, 8),
+        stoichiometric: bytes::two_at(frame, 10),
+        heat: bytes::four_at(frame, 12),
+        distance: bytes::four_at(frame, 16),
+        body: bytes::two_at(frame, 20),
     }
+}
+
+// The four settings of a case, into the first four bytes of s.
+pub fn write_settings(s: &mut [u8], substance: u64, state: u64, placement: u64, surroundings: u64)
+    requires { ⌜ 4 ≤ length (now s) ⌝ }
+    ensures { λ _. ⌜ Stored (now (s .entry)) 0 (settings substance state placement surroundings) (now (s .exit)) ⌝ }
+{
+    bytes::put_one(s, 0, substance);
+    bytes::put_one(s, 1, state);
+    bytes::put_one(s, 2, placement);
+    bytes::put_one(s, 3, surroundings);
+}
+
+// The frame of a case, into the first 22 bytes of s.
+pub fn write(s: &mut [u8], c: Case)
+    requires { ⌜ 22 ≤ length (now s) ⌝ }
+    ensures { λ _. ⌜ now (s .exit) ≡ sets (now (s .entry)) 0 (frameBytes c) ⌝ }
+{
+    write_settings(s, c.substance, c.state, c.placement, c.surroundings);
+    bytes::put_four(s, 4, c.mass);
+    bytes::put_two(s, 8, c.mean);
+    bytes::put_two(s, 10, c.stoichiometric);
+    bytes::put_four(s, 12, c.heat);
+    bytes::put_four(s, 16, c.distance);
+    bytes::put_two(s, 20, c.body);
 }

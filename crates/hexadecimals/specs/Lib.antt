@@ -1,4 +1,5 @@
 -- Hexadecimal digits and the bytes that they spell.
 pub mod Digits
 pub mod Spelling
+pub mod Written
 pub mod laws

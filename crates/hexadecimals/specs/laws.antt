@@ -2,3 +2,5 @@
 pub mod Within
 pub mod Worth
 pub mod Spelling
+pub mod Written
+pub mod Writing

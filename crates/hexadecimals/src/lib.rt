@@ -1,10 +1,13 @@
-// Hexadecimal digits, either letter case, and the 22 bytes that a line of 44 of them spells.
+// Hexadecimal digits, either letter case, and the bytes that a line of them spells; bytes written as upper-case digits.
 ghost use mathlib.Core.Path.{_≡_};
+ghost use Prim.Native.Nat.{_*_, _≤_, _<_};
 ghost use lib.ListN.{length};
 ghost use lib.Dec.{ltb};
+ghost use lib.Seq.{sets};
 ghost use mathlib.Core.Bool.{_&&_};
 ghost use Rattle.hexadecimals.specs.Digits.{within, digitOf};
 ghost use Rattle.hexadecimals.specs.Spelling.{Spelled};
+ghost use Rattle.hexadecimals.specs.Written.{upper, digitsOf};
 ghost use Rattle.hexadecimals.specs.laws.Worth.{Worth};
 
 fn is_within(least: u8, most: u8, x: u8) -> bool
@@ -36,14 +39,14 @@ fn greater(a: u8, b: u8) -> u8
     if a < b { b } else { a }
 }
 
-// What each of 44 characters is worth, and the greatest: below 16 where all are digits. No turn branches, so that 16 are worked at once.
+// What each character is worth, and the greatest: below 16 where all are digits. No turn branches, so that 16 are worked at once.
 fn digits(line: &[u8], worth: &mut [u8]) -> u8
-    requires { ⌜ (length (now line) ≡ 44) × (length (now worth) ≡ 44) ⌝ }
-    ensures { λ r. ⌜ Worth (now (line .entry)) (now (worth .exit)) 44 r ⌝ }
+    requires { ⌜ length (now worth) ≡ length (now line) ⌝ }
+    ensures { λ r. ⌜ Worth (now (line .entry)) (now (worth .exit)) (length (now (line .entry))) r ⌝ }
 {
     let mut most = 0u8;
     let mut i = 0;
-    while i < 44 {
+    while i < line.len() {
         let d = digit_of(line[i]);
         worth[i] = d;
         most = greater(most, d);
@@ -52,24 +55,53 @@ fn digits(line: &[u8], worth: &mut [u8]) -> u8
     most
 }
 
-// The bytes that a line of 44 digits spells, into `frame`; false, and the frame as it was, where the line is no such one.
-pub fn spell(line: &[u8], frame: &mut [u8; 22]) -> bool
-    ensures { λ r. ⌜ Spelled (now (line .entry)) (now (frame .entry)) (now (frame .exit)) r ⌝ }
+// The bytes that a line of as many digits spells, into s, with `worth` to work them in.
+fn spell_by(line: &[u8], worth: &mut [u8], s: &mut [u8]) -> bool
+    requires { ⌜ (length (now worth) ≡ length (now line)) × (length (now line) ≡ 2 * length (now s)) ⌝ }
+    ensures { λ r. ⌜ Spelled (now (line .entry)) (now (s .entry)) (now (s .exit)) r ⌝ }
 {
-    if line.len() != 44 {
-        return false;
-    }
-    let mut worth = [0u8; 44];
-    let most = digits(line, &mut worth);
+    let most = digits(line, worth);
     if 15 < most {
         return false;
     }
-    let mut bytes = [0u8; 22];
     let mut i = 0;
-    while i < 22 {
-        bytes[i] = 16 * worth[2 * i] + worth[2 * i + 1];
+    while i < s.len() {
+        s[i] = 16 * worth[2 * i] + worth[2 * i + 1];
         i += 1;
     }
-    *frame = bytes;
     true
+}
+
+// The bytes that a line of digits spells, into s; false, and s as it was, where the line is not one of two digits for each byte of s.
+pub fn spell(line: &[u8], s: &mut [u8]) -> bool
+    requires { ⌜ length (now s) ≤ 58 ⌝ }
+    ensures { λ r. ⌜ Spelled (now (line .entry)) (now (s .entry)) (now (s .exit)) r ⌝ }
+{
+    if line.len() != 2 * s.len() {
+        return false;
+    }
+    let mut worth = [0u8; 116];
+    spell_by(line, &mut worth[..line.len()], s)
+}
+
+// The digit of a number below 16, upper case.
+fn upper_of(d: u8) -> u8
+    requires { ⌜ d < 16 ⌝ }
+    ensures { λ r. ⌜ r ≡ upper d ⌝ }
+{
+    if d < 10 { 48 + d } else { 55 + d }
+}
+
+// Two upper-case digits for each byte of s, at the start of the area.
+pub fn write(s: &[u8], area: &mut [u8])
+    requires { ⌜ 2 * length (now s) ≤ length (now area) ⌝ }
+    ensures { λ _. ⌜ now (area .exit) ≡ sets (now (area .entry)) 0 (digitsOf (now (s .entry))) ⌝ }
+{
+    let mut i = 0;
+    while i < s.len() {
+        let b = s[i];
+        area[2 * i] = upper_of(b / 16);
+        area[2 * i + 1] = upper_of(b % 16);
+        i += 1;
+    }
 }

@@ -1,13 +1,8 @@
--- Numbers as two and four bytes, high byte first, and two's complement in 32 bits (document 01, "The answer frame"). Assumes nothing.
-use Prim.Native.Nat.{ℕ, suc, _-_, _/_, _%_, _^_}
-use mathlib.Core.List.{List, [], _∷_, _++_}
+-- The two ends of an interval in bytes, and two's complement in 32 bits (document 01, "The answer frame"). Assumes nothing.
+use Prim.Native.Nat.{ℕ, suc, _-_, _^_}
+use mathlib.Core.List.{List, _++_}
 use lib.IntN.{ℤ, pos, negsuc}
-
-unfoldable pub two : ℕ → List ℕ
-two v = v / 2 ^ 8 % 256 ∷ v % 256 ∷ []
-
-unfoldable pub four : ℕ → List ℕ
-four v = v / 2 ^ 24 % 256 ∷ v / 2 ^ 16 % 256 ∷ v / 2 ^ 8 % 256 ∷ v % 256 ∷ []
+use Rattle.bytes.specs.Numbers.{two, four}
 
 -- a signed number in two's complement
 unfoldable pub twos : ℤ → ℕ

@@ -1,5 +1,4 @@
 pub mod Bytes
 pub mod Places
 pub mod Fitting
-pub mod Storing
 pub mod laws

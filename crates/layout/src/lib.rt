@@ -1,41 +1,14 @@
 // The writers of the answer frame: numbers high byte first, each into a part of the lent area.
 // Every contract gives all that was lent at exit: `Stored l i bs L` says that L is l with the bytes bs stored from index i on (`sets l i bs`).
 ghost use mathlib.Core.Path.{_≡_};
-ghost use Prim.Native.Nat.{_+_, _%_, _^_, _≤_, _<_};
+ghost use Prim.Native.Nat.{_+_, _^_, _≤_, _<_};
 ghost use lib.ListN.{length};
 ghost use lib.Seq.{sets};
 ghost use lib.Signed.{mag};
-ghost use Rattle.layout.specs.Bytes.{two, four, twos, words};
-ghost use Rattle.layout.specs.Storing.{Stored};
+ghost use Rattle.bytes.specs.Storing.{Stored};
+ghost use Rattle.layout.specs.Bytes.{twos, words};
 ghost use Rattle.layout.specs.Fitting.{Fits, Fit};
 ghost use Rattle.layout.specs.Places.{probitOf, waveBytes, probitBytes, damageOf, damageBytes, rangeByte, answerBytes};
-
-// The last eight bits of v.
-fn low_byte(v: u64) -> u8
-    ensures { λ r. ⌜ r ≡ v % 256 ⌝ }
-{
-    (v & 0xff) as u8
-}
-
-// The two bytes of s from `at` on become v's.
-fn put_half(s: &mut [u8], at: usize, v: u64)
-    requires { ⌜ at + 2 ≤ length (now s) ⌝ }
-    ensures { λ _. ⌜ Stored (now (s .entry)) at (two v) (now (s .exit)) ⌝ }
-{
-    s[at] = low_byte(v >> 8);
-    s[at + 1] = low_byte(v);
-}
-
-// The four bytes of s from `at` on become v's.
-fn put_word(s: &mut [u8], at: usize, v: u64)
-    requires { ⌜ at + 4 ≤ length (now s) ⌝ }
-    ensures { λ _. ⌜ Stored (now (s .entry)) at (four v) (now (s .exit)) ⌝ }
-{
-    s[at] = low_byte(v >> 24);
-    s[at + 1] = low_byte(v >> 16);
-    s[at + 2] = low_byte(v >> 8);
-    s[at + 3] = low_byte(v);
-}
 
 // The 32 bits of x in two's complement.
 fn bits(x: i64) -> u64
@@ -85,8 +58,8 @@ fn put_damage(s: &mut [u8], at: usize, d: Ends)
     requires { ⌜ at + 4 ≤ length (now s) ⌝ }
     ensures { λ _. ⌜ Stored (now (s .entry)) at (damageOf d) (now (s .exit)) ⌝ }
 {
-    put_half(s, at, d.lower);
-    put_half(s, at + 2, d.upper);
+    bytes::put_two(s, at, d.lower);
+    bytes::put_two(s, at + 2, d.upper);
 }
 
 // The two ends of a pressure or an impulse, four bytes each.
@@ -94,8 +67,8 @@ fn put_ends(s: &mut [u8], at: usize, e: Ends)
     requires { ⌜ at + 8 ≤ length (now s) ⌝ }
     ensures { λ _. ⌜ Stored (now (s .entry)) at (words (e .lower) (e .upper)) (now (s .exit)) ⌝ }
 {
-    put_word(s, at, e.lower);
-    put_word(s, at + 4, e.upper);
+    bytes::put_four(s, at, e.lower);
+    bytes::put_four(s, at + 4, e.upper);
 }
 
 // The two ends of a probit in two's complement, four bytes each.

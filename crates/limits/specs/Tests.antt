@@ -1,7 +1,7 @@
 -- Tests 3 to 6, with 12 to 14 in the place of 4: the values of each field, and a heat (document 01, "The case frame", "Refused cases"; request 2).
 use Prim.Native.Nat.{ℕ}
 use mathlib.Core.Bool.{Bool, not, _&&_, _||_}
-use mathlib.Core.List.{List, [], _∷_}
+use mathlib.Core.List.{List, [], _∷_, _++_}
 use lib.Dec.{eqb}
 use Rattle.hexadecimals.specs.Digits.{within}
 use Rattle.guidance.specs.declared.Case.{Case}
@@ -27,13 +27,20 @@ quantityOutside c =
 unfoldable pub heatMissing : Case → Bool
 heatMissing c = eqb (c .heat) 0 && eqb (betaOf (c .substance)) 0
 
--- in the order of the tests, the three settings in that of the frame
-unfoldable pub fieldTests : Case → List (Test Fault)
-fieldTests c =
+-- tests 3 to 5, the three settings in the order of the frame
+unfoldable pub valueTests : Case → List (Test Fault)
+valueTests c =
     (Substance when outside 0 75 (c .substance))
     ∷ (State when outside 0 1 (c .state))
     ∷ (Placement when outside 0 1 (c .placement))
     ∷ (Surroundings when outside 1 4 (c .surroundings))
     ∷ (Quantity when quantityOutside c)
-    ∷ (Heat when heatMissing c)
     ∷ []
+
+-- 5 once more, for a heat that was given and lost, as only the old form has it (request 3), and 6
+abbrev pub heatTests : (lost : Bool) → Case → List (Test Fault)
+heatTests lost c = (Quantity when lost) ∷ (Heat when heatMissing c) ∷ []
+
+-- tests 3 to 6
+unfoldable pub fieldTests : Case → List (Test Fault)
+fieldTests c = valueTests c ++ (Heat when heatMissing c) ∷ []

@@ -1,8 +1,7 @@
 // Tests 3 to 6, with 12 to 14 in the place of 4: whether each field of a case holds one of its values, and whether the case has a heat.
 ghost use mathlib.Core.Path.{_≡_};
-ghost use mathlib.Core.Bool.{_||_};
 ghost use Rattle.limits.specs.Tests.{outside, quantityOutside, heatMissing};
-ghost use Rattle.limits.specs.Checks.{caseChecked};
+ghost use Rattle.limits.specs.Checks.{valuesChecked, heatChecked, caseChecked};
 use guidance::Case;
 use refusals::Fault;
 
@@ -10,12 +9,6 @@ use refusals::Fault;
 pub enum Checked {
     Sound(Case),
     Unsound(Fault),
-}
-
-fn either(a: bool, b: bool) -> bool
-    ensures { λ r. ⌜ r ≡ (a || b) ⌝ }
-{
-    if a { true } else { b }
 }
 
 // Whether x is none of the values least to most.
@@ -34,24 +27,19 @@ fn quantity_outside(c: Case) -> bool
     let heat = is_outside(0, 150000, c.heat);
     let distance = is_outside(1, 1000000, c.distance);
     let body = is_outside(1, 500, c.body);
-    either(
-        either(
-            either(either(either(mass, mean), stoichiometric), heat),
-            distance,
-        ),
-        body,
-    )
+    refusals::any_of(mass, mean, stoichiometric, heat, distance, body)
 }
 
+// Test 6: heat 0, and the substance has none of its own.
 fn heat_missing(c: Case) -> bool
     ensures { λ r. ⌜ r ≡ heatMissing c ⌝ }
 {
     guidance::heat_of(c) == 0
 }
 
-// Tests 3 to 6.
-pub fn check(c: Case) -> Checked
-    ensures { λ r. ⌜ r ≡ caseChecked c ⌝ }
+// Tests 3 to 5.
+pub fn check_values(c: Case) -> Checked
+    ensures { λ r. ⌜ r ≡ valuesChecked c ⌝ }
 {
     if is_outside(0, 75, c.substance) {
         return Checked::Unsound(Fault::Substance);
@@ -68,8 +56,31 @@ pub fn check(c: Case) -> Checked
     if quantity_outside(c) {
         return Checked::Unsound(Fault::Quantity);
     }
-    if heat_missing(c) {
-        return Checked::Unsound(Fault::Heat);
-    }
     Checked::Sound(c)
+}
+
+// What tests 3 to 5 found stands; then a heat that was given and lost is refused under 5; else test 6 decides.
+pub fn check_heat(s: Checked, lost: bool) -> Checked
+    ensures { λ r. ⌜ r ≡ heatChecked lost s ⌝ }
+{
+    match s {
+        Checked::Unsound(f) => Checked::Unsound(f),
+        Checked::Sound(c) => {
+            if lost {
+                return Checked::Unsound(Fault::Quantity);
+            }
+            if heat_missing(c) {
+                return Checked::Unsound(Fault::Heat);
+            }
+            Checked::Sound(c)
+        }
+    }
+}
+
+// Tests 3 to 6.
+pub fn check(c: Case) -> Checked
+    ensures { λ r. ⌜ r ≡ caseChecked c ⌝ }
+{
+    let s = check_values(c);
+    check_heat(s, false)
 }

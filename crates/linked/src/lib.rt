@@ -1,4 +1,4 @@
-// The entries for C and other languages: a case answered into a lent area, its overpressure or its impulse alone, and the ring of a threshold.
+// The entries for C and other languages: a case answered into a lent area, its overpressure or its impulse alone, the ring of a threshold, and the old form's lines.
 ghost use lib.ListN.{length};
 ghost use Rattle.frame.specs.Verdicts.{frameVerdict, lineVerdict};
 ghost use Rattle.linked.specs.Codes.{Entered, FigureAnswered};
@@ -10,6 +10,7 @@ use frame::Verdict;
 use guidance::Case;
 use layout::Ends;
 
+pub mod old_lines;
 pub mod rings;
 
 // A case given as a frame's bytes.

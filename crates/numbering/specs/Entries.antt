@@ -5,16 +5,26 @@ use Rattle.frame.specs.declared.Refusal as of-answer
 use Rattle.frame.specs.Refusals as answers
 use Rattle.ring.specs.declared.Refusal as of-ring
 use Rattle.ring.specs.Refusals as rings
+use Rattle.writable.specs.declared.Refusal as of-writing
+use Rattle.writable.specs.Refusals as writings
+use Rattle.from_old.specs.declared.Refusal as of-old-line
+use Rattle.from_old.specs.Refusals as old-lines
 
--- of an answer, of a figure alone or of a record; of a ring
+-- of an answer, of a figure alone or of a record; of a ring; of a case that is to be written; of an old line
 pub data Refused : Type 0 where
   answer : of-answer.Refusal → Refused
   ring : of-ring.Refusal → Refused
+  writing : of-writing.Refusal → Refused
+  oldLine : of-old-line.Refusal → Refused
 
 abbrev pub number : Refused → ℕ
 number (answer r) = answers.number r
 number (ring r) = rings.number r
+number (writing r) = writings.number r
+number (oldLine r) = old-lines.number r
 
 abbrev pub word : Refused → List ℕ
 word (answer r) = answers.word r
 word (ring r) = rings.word r
+word (writing r) = writings.word r
+word (oldLine r) = old-lines.word r

@@ -1,5 +1,6 @@
-// The faults of a case, by number and word.
+// The faults of a case, by number and word, and the test of six fields as one.
 ghost use mathlib.Core.Path.{_≡_};
+ghost use mathlib.Core.Bool.{_||_};
 ghost use Rattle.refusals.specs.Faults.{number, filled, word};
 
 // What is wrong with a case itself, in the order of the tests.
@@ -43,4 +44,26 @@ pub fn word_of(f: Fault) -> [u8; 12]
         Fault::Quantity => *b"quantity\0\0\0\0",
         Fault::Heat => *b"heat\0\0\0\0\0\0\0\0",
     }
+}
+
+// Whether one of six tests applies.
+pub fn any_of(a: bool, b: bool, c: bool, d: bool, e: bool, f: bool) -> bool
+    ensures { λ r. ⌜ r ≡ (a || b || c || d || e || f) ⌝ }
+{
+    if a {
+        return true;
+    }
+    if b {
+        return true;
+    }
+    if c {
+        return true;
+    }
+    if d {
+        return true;
+    }
+    if e {
+        return true;
+    }
+    f
 }

@@ -6,7 +6,7 @@ use mathlib.Core.List.{List}
 use lib.Dec.{eqb}
 use lib.ListN.{getD}
 use borrow.Author.Tests.{lt-ltb, le-ltb}
-use Rattle.fields.specs.Bytes.{twoAt, fourAt}
+use Rattle.bytes.specs.Numbers.{twoAt, fourAt}
 use Rattle.scan.specs.declared.Word.{Word}
 use Rattle.vectors.specs.declared.bounds.Held.{Held}
 use Rattle.vectors.specs.declared.judging.Vector.{Vector}

@@ -3,7 +3,7 @@ use Prim.Native.Nat.{ℕ, _+_, _*_}
 use mathlib.Core.Bool.{Bool, false, _&&_, cond}
 use mathlib.Core.List.{List}
 use lib.Dec.{eqb, leb, ltb}
-use Rattle.fields.specs.Bytes.{twoAt, fourAt}
+use Rattle.bytes.specs.Numbers.{twoAt, fourAt}
 use Rattle.scan.specs.declared.Word.{Word}
 use Rattle.scan.specs.Words.{wordAt}
 use Rattle.vectors.specs.declared.bounds.Held.{Held}

@@ -4,7 +4,7 @@ use mathlib.Core.Bool.{Bool, _&&_, cond}
 use mathlib.Core.List.{List}
 use lib.Dec.{eqb, leb, ltb}
 use lib.ListN.{getD}
-use Rattle.fields.specs.Bytes.{twoAt, fourAt}
+use Rattle.bytes.specs.Numbers.{twoAt, fourAt}
 
 -- lower ≤ value ≤ upper: the ends count units, the value counts parts of which a unit has `unit`
 unfoldable pub contained : (lower upper value unit : ℕ) → Bool

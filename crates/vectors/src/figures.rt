@@ -2,7 +2,7 @@
 ghost use mathlib.Core.Path.{_≡_};
 ghost use mathlib.Core.Bool.{_&&_};
 ghost use Prim.Native.Nat.{_+_, _≤_, _<_};
-ghost use Rattle.fields.specs.Bytes.{twoAt, fourAt};
+ghost use Rattle.bytes.specs.Numbers.{twoAt, fourAt};
 ghost use Rattle.scan.specs.Words.{largest};
 ghost use Rattle.vectors.specs.Figures.{contained, closed, waveRight, raisedWord, raised as Figures·raised, probitRight, reached, rank, tenthsAt, damageRight, right};
 

@@ -15,7 +15,7 @@ use Rattle.guidance.specs.Waves.{standardAir, reducedPressure}
 use Rattle.guidance.specs.laws.Known.{FirstIs, point-holds, gas-near-field, heterogeneous-reduced, heterogeneous-pressure, range-of}
 use Rattle.refusals.specs.Order.{firstOf, held}
 use Rattle.fields.specs.Bytes.{fieldsOf}
-use Rattle.limits.specs.Tests.{quantityOutside, heatMissing, fieldTests}
+use Rattle.limits.specs.Tests.{quantityOutside, heatMissing, valueTests, fieldTests}
 use Rattle.frame.specs.Tests.{frameTests}
 use Rattle.frame.specs.Verdicts.{lastTests, frameVerdict}
 use Rattle.frame.specs.laws.Verdicts.{heat-given}
@@ -45,7 +45,7 @@ unfolding fieldsOf wholeZ ofRatio _⊠_
 reduced = between 1000 (point-holds heterogeneous-reduced) (record { cross = omega arith }) (record { cross = omega arith })
 
 pub known : KnownCases
-unfolding fieldsOf nearer farther less cubed metres cube02 cube24 power whole _⊗_ energy groundFactor leanFactor leanBy decLe aerosolFactor heatOf betas betaOf rangeOf classOf atLeast1 frameVerdict firstOf held frameTests fieldTests lastTests quantityOutside heatMissing
+unfolding fieldsOf nearer farther less cubed metres cube02 cube24 power whole _⊗_ energy groundFactor leanFactor leanBy decLe aerosolFactor heatOf betas betaOf rangeOf classOf atLeast1 frameVerdict firstOf held frameTests fieldTests valueTests lastTests quantityOutside heatMissing
 known =
     record {
       q-range = refl;

@@ -15,7 +15,7 @@ use Rattle.frame.specs.declared.Verdict.the-variants.{Accepted, Refused}
 use Rattle.fields.specs.Bytes.{fieldsOf}
 use Rattle.hexadecimals.specs.Digits.{digitOf, allDigits, bytesOf}
 use Rattle.refusals.specs.Order.{firstOf, held}
-use Rattle.limits.specs.Tests.{quantityOutside, heatMissing, fieldTests}
+use Rattle.limits.specs.Tests.{quantityOutside, heatMissing, valueTests, fieldTests}
 use Rattle.frame.specs.Tests.{frameTests, lineTests}
 use Rattle.frame.specs.Verdicts.{lastTests, frameVerdict, lineVerdict}
 
@@ -87,7 +87,7 @@ pub record Examples : Type 0 where
   pub quantity-after : frameVerdict (settings 1 1 4) 77 ≡ Refused (Faulty Quantity)
 
 pub examples : Examples
-unfolding frameVerdict lineVerdict firstOf held frameTests lineTests fieldTests lastTests quantityOutside heatMissing fieldsOf digitOf allDigits bytesOf farther less cubed metres cube24 power whole _⊗_ energy groundFactor leanFactor leanBy decLe aerosolFactor heatOf betas betaOf rangeOf classOf atLeast1
+unfolding frameVerdict lineVerdict firstOf held frameTests lineTests fieldTests valueTests lastTests quantityOutside heatMissing fieldsOf digitOf allDigits bytesOf farther less cubed metres cube24 power whole _⊗_ energy groundFactor leanFactor leanBy decLe aerosolFactor heatOf betas betaOf rangeOf classOf atLeast1
 examples =
     record {
       empty-line = refl;

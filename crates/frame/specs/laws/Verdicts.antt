@@ -20,7 +20,7 @@ use Rattle.frame.specs.Refusals.{number}
 use Rattle.fields.specs.Bytes.{fieldsOf}
 use Rattle.hexadecimals.specs.Digits.{allDigits, bytesOf}
 use Rattle.refusals.specs.Order.{Test, firstOf, held}
-use Rattle.limits.specs.Tests.{heatMissing, fieldTests}
+use Rattle.limits.specs.Tests.{heatMissing, valueTests, fieldTests}
 use Rattle.limits.specs.Checks.{checkedBy}
 use Rattle.frame.specs.Tests.{frameTests, lineTests}
 use Rattle.frame.specs.Verdicts.{answerLength, lastTests, verdictBy, frameVerdict, lineVerdict}
@@ -123,15 +123,15 @@ not-refused r ts d a h = absent number r ts a (refused-by (firstOf ts) d r h)
 
 -- a frame given as bytes has no test 2
 pub frame-no-digit : (frame : List ℕ) (room : ℕ) → frameVerdict frame room ≡ Refused (Faulty Digit) → ⊥
-unfolding frameVerdict frameTests fieldTests lastTests held
+unfolding frameVerdict frameTests fieldTests valueTests lastTests held
 frame-no-digit frame room h = not-refused (Faulty Digit) _ (fieldsOf frame) refl h
 
 -- with room for an answer no line has refusal 8
 pub line-no-space : (line : List ℕ) (room : ℕ) → answerLength ≤ room → lineVerdict line room ≡ Refused Space → ⊥
-unfolding lineVerdict lineTests fieldTests lastTests held
+unfolding lineVerdict lineTests fieldTests valueTests lastTests held
 line-no-space line room enough h = not-refused Space _ (fieldsOf (bytesOf line)) (simp (le-ltb room answerLength enough)) h
 
 -- a given heat is never missing
 pub heat-given : (frame : List ℕ) (room : ℕ) → 0 < fieldsOf frame .heat → frameVerdict frame room ≡ Refused (Faulty Heat) → ⊥
-unfolding frameVerdict frameTests fieldTests lastTests held heatMissing
+unfolding frameVerdict frameTests fieldTests valueTests lastTests held heatMissing
 heat-given frame room given h = not-refused (Faulty Heat) _ (fieldsOf frame) (simp (ne-eqb (fieldsOf frame .heat) 0 (λ e. omega arith))) h

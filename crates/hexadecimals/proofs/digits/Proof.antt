@@ -1,6 +1,7 @@
 -- `hexadecimals::digits` meets its contract: each turn works one character. Assumes nothing.
 use Prim.Native.Nat.{_-_}
 use native.Mathlib.Omega.{arith}
+use lib.ListN.{length}
 use borrow.Author.Needs.{needs}
 use Rattle.hexadecimals.specs.laws.Worth.{Worth, none-worked, next-worked, all-worked}
 use Rattle.hexadecimals.proofs.digits.Statement.{statement}
@@ -10,10 +11,10 @@ abbrev Inv-loop : tie.InvT-loop
 Inv-loop line worth₀ most₀ i₀ worth most i = Worth line worth i most
 
 abbrev μ-loop : tie.MeasureT-loop
-μ-loop line worth₀ most₀ i₀ worth most i = 44 - i
+μ-loop line worth₀ most₀ i₀ worth most i = length line - i
 
 loop-holds : tie.Need-loop-holds Inv-loop μ-loop
-loop-holds c = none-worked _ _ (search needs) (search needs)
+loop-holds c = none-worked _ _ (search needs)
 
 shared-slice-read-digit-of : tie.Need-shared-slice-read-digit-of Inv-loop μ-loop
 shared-slice-read-digit-of c = omega arith

@@ -1,7 +1,7 @@
 -- Laws of the bytes that a line spells: two characters at a time, one byte. Assumes nothing.
 use Prim.Native.Nat.{ℕ, zero, suc, _+_, _*_, _≤_, _<_}
 use mathlib.Core.Path.{_≡_, refl, sym, ap, _∙_}
-use mathlib.Core.Bool.{Bool, true, false, cond}
+use mathlib.Core.Bool.{Bool, true, false}
 use mathlib.Core.List.{List, [], _∷_, _++_, append-assoc, append-nil}
 use native.Mathlib.Numerals.{add-one}
 use native.Mathlib.Omega.{arith}
@@ -76,24 +76,26 @@ module _ {n : ℕ} {line bytes : List ℕ} (size : length line ≡ 2 * n) (b : B
       let all : take n bytes ≡ bytes = take-all n bytes (omega (arith, b .whole)) in
       sym (b .spelled ∙ ap (λ (k : List ℕ). take n bytes ++ bytesOf k) nothing-left ∙ append-nil (take n bytes) ∙ all)
 
--- what is made of a frame, by whether the line spells one
+-- what is made of the bytes, by whether the line spells as many
 module _ {line : List ℕ} (before : List ℕ) where
-  as-it-was : spells line ≡ false → Spelled line before before false
+  as-it-was : spells (length before) line ≡ false → Spelled line before before false
   as-it-was e = record { told = sym e; bytes = simp e }
 
-  pub other-length : (length line ≡ 44 → ⊥) → Spelled line before before false
+  pub other-length : (length line ≡ 2 * length before → ⊥) → Spelled line before before false
   unfolding spells
   other-length h = as-it-was (simp (ne-eqb _ _ h))
 
-  pub other-character : length line ≡ 44 → allDigits line ≡ false → Spelled line before before false
+  pub other-character : length line ≡ 2 * length before → allDigits line ≡ false → Spelled line before before false
   unfolding spells
   other-character h e = as-it-was (simp (eq-eqb _ _ h, e))
 
-  pub frame-spelled : {bytes : List ℕ} → length line ≡ 44 → Begun 22 line bytes 22 → Spelled line before bytes true
+  pub all-spelled : {bytes : List ℕ} {i : ℕ} → length line ≡ 2 * length before → Begun (length before) line bytes i → length before ≤ i → Spelled line before bytes true
   unfolding spells
-  frame-spelled {bytes} h b =
-      let e : spells line ≡ true = simp (eq-eqb _ _ h, all-digits h b) in
-      record { told = sym e; bytes = simp e (all-bytes h b) }
+  all-spelled {bytes} {i} h b l =
+      let last : i ≡ length before = omega (arith, b .turns) in
+      let made : Begun (length before) line bytes (length before) = rw last at b in
+      let e : spells (length before) line ≡ true = simp (eq-eqb _ _ h, all-digits h made) in
+      record { told = sym e; bytes = simp e (all-bytes h made) }
 
 -- two characters a byte
 pub length-bytesOf : (n : ℕ) (line : List ℕ) → length line ≡ 2 * n → length (bytesOf line) ≡ n
@@ -109,16 +111,19 @@ module _ {line before after : List ℕ} {answer : Bool} (s : Spelled line before
   pub yes-bytes : answer ≡ true → after ≡ bytesOf line
   yes-bytes h = s .bytes ∙ simp (sym (s .told) ∙ h)
 
-  pub yes-digits : answer ≡ true → allDigits line ≡ true
+  both : answer ≡ true → (eqb (length line) (2 * length before) ≡ true) × (allDigits line ≡ true)
   unfolding spells
-  yes-digits h = both-true (eqb (length line) 44) (allDigits line) (sym (s .told) ∙ h) .1
+  both h = both-true (eqb (length line) (2 * length before)) (allDigits line) (sym (s .told) ∙ h)
 
-  pub no-digits : answer ≡ false → length line ≡ 44 → allDigits line ≡ false
+  pub yes-digits : answer ≡ true → allDigits line ≡ true
+  yes-digits h = both h .1
+
+  pub yes-size : answer ≡ true → length line ≡ 2 * length before
+  yes-size h = eqb-true (length line) (2 * length before) (both h .0)
+
+  pub yes-length : answer ≡ true → length after ≡ length before
+  yes-length h = ap length (yes-bytes h) ∙ length-bytesOf (length before) line (yes-size h)
+
+  pub no-digits : answer ≡ false → length line ≡ 2 * length before → allDigits line ≡ false
   unfolding spells
   no-digits h n = simp (eq-eqb _ _ n) at (sym (s .told) ∙ h)
-
-  pub yes-length : answer ≡ true → length after ≡ 22
-  unfolding spells
-  yes-length h =
-      let size = eqb-true (length line) 44 (both-true (eqb (length line) 44) (allDigits line) (sym (s .told) ∙ h) .0) in
-      ap length (yes-bytes h) ∙ length-bytesOf 22 line size

@@ -16,24 +16,22 @@ use Rattle.hexadecimals.specs.Digits.{digitOf, allDigits}
 
 -- the first i characters are worked: each is worth its digit, and all are digits if `most` is below 16 and those that are left are digits
 pub record Worth (line worth : List ℕ) (i most : ℕ) : Type 0 where
-  pub turns : i ≤ 44
-  pub size : length line ≡ 44
-  pub whole : length worth ≡ 44
+  pub turns : i ≤ length line
+  pub whole : length worth ≡ length line
   pub each : (k : ℕ) → k < i → getD worth k 0 ≡ digitOf (getD line k 0)
   pub digits : allDigits line ≡ (ltb most 16 && allDigits (drop i line))
 
-pub none-worked : (line worth : List ℕ) → length line ≡ 44 → length worth ≡ 44 → Worth line worth 0 0
-none-worked line worth h k =
-    record { turns = omega arith; size = h; whole = k; each = λ k h. absurd (omega arith); digits = refl }
+pub none-worked : (line worth : List ℕ) → length worth ≡ length line → Worth line worth 0 0
+none-worked line worth h =
+    record { turns = omega arith; whole = h; each = λ k h. absurd (omega arith); digits = refl }
 
 -- one turn
-pub next-worked : {line worth : List ℕ} {i most d top : ℕ} → Worth line worth i most → i < 44 → d ≡ digitOf (getD line i 0)
+pub next-worked : {line worth : List ℕ} {i most d top : ℕ} → Worth line worth i most → i < length line → d ≡ digitOf (getD line i 0)
     → ltb top 16 ≡ (ltb most 16 && ltb d 16) → Worth line (set worth i d) (i + 1) top
 unfolding allDigits
 next-worked {line} {worth} {i} {most} {d} {top} w h e t =
     record {
       turns = omega arith;
-      size = w .size;
       whole = length-set worth i d ∙ w .whole;
       each = λ k l. at k l (decLe i k);
       digits = w .digits
@@ -44,7 +42,7 @@ next-worked {line} {worth} {i} {most} {d} {top} w h e t =
     }
   where
     left : drop i line ≡ getD line i 0 ∷ drop (i + 1) line
-    left = drop-cons line i 0 (omega (arith, w .size)) ∙ ap (λ (k : ℕ). getD line i 0 ∷ drop k line) (sym (add-one i))
+    left = drop-cons line i 0 h ∙ ap (λ (k : ℕ). getD line i 0 ∷ drop k line) (sym (add-one i))
 
     at : (k : ℕ) → k < i + 1 → Dec (i ≤ k) → getD (set worth i d) k 0 ≡ digitOf (getD line k 0)
     at k l (yes j) =
@@ -52,9 +50,9 @@ next-worked {line} {worth} {i} {most} {d} {top} w h e t =
         rw same (getD-set-same worth i d 0 (omega (arith, w .whole)) ∙ e)
     at k l (no j) = getD-set-other worth i k d 0 (λ q. omega arith) ∙ w .each k (omega arith)
 
-pub all-worked : {line worth : List ℕ} {i most : ℕ} → Worth line worth i most → 44 ≤ i → Worth line worth 44 most
+pub all-worked : {line worth : List ℕ} {i most : ℕ} → Worth line worth i most → length line ≤ i → Worth line worth (length line) most
 all-worked {line} {worth} {i} {most} w h =
-    let e : i ≡ 44 = omega (arith, w .turns) in
+    let e : i ≡ length line = omega (arith, w .turns) in
     rw e at w
 
 -- the greater of two is below 16 where both are
@@ -77,10 +75,10 @@ each-digit (b ∷ line) zero a h = ltb-true (digitOf b) 16 (both-true (ltb (digi
 each-digit (b ∷ line) (suc k) a h = each-digit line k (both-true (ltb (digitOf b) 16) (allDigits line) a .1) (le-of-suc-le-suc h)
 
 -- all of them
-module _ {line worth : List ℕ} {most : ℕ} (w : Worth line worth 44 most) where
-  nothing-left : allDigits (drop 44 line) ≡ true
+module _ {line worth : List ℕ} {most : ℕ} (w : Worth line worth (length line) most) where
+  nothing-left : allDigits (drop (length line) line) ≡ true
   unfolding allDigits
-  nothing-left = ap allDigits (drop-of-length-le line {i = 44} (omega (arith, w .size)))
+  nothing-left = ap allDigits (drop-of-length-le line {i = length line} (omega arith))
 
   pub all-worth : most ≤ 15 → allDigits line ≡ true
   all-worth h = w .digits ∙ simp (lt-ltb most 16 (omega arith), nothing-left)
@@ -88,5 +86,5 @@ module _ {line worth : List ℕ} {most : ℕ} (w : Worth line worth 44 most) whe
   pub not-all : 15 < most → allDigits line ≡ false
   not-all h = w .digits ∙ simp (le-ltb most 16 (omega arith))
 
-  pub digit-most : most ≤ 15 → (k : ℕ) → k < 44 → getD worth k 0 ≤ 15
-  digit-most h k l = omega (arith, w .each k l, each-digit line k (all-worth h) (omega (arith, w .size)))
+  pub digit-most : most ≤ 15 → (k : ℕ) → k < length line → getD worth k 0 ≤ 15
+  digit-most h k l = omega (arith, w .each k l, each-digit line k (all-worth h) l)

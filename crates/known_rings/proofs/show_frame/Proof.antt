@@ -5,11 +5,14 @@ use borrow.Author.Needs.{needs}
 use Rattle.known_rings.proofs.show_frame.Statement.{statement}
 use Rattle.known_rings.proofs.show_frame.Tie as tie
 
+slice-aggregate-spell : tie.Need-slice-aggregate-spell
+slice-aggregate-spell c = search needs
+
 spell-requires : tie.Need-spell-requires
 spell-requires c κs = search needs
 
 slice-aggregate-from-frame : tie.Need-slice-aggregate-from-frame
-slice-aggregate-from-frame c = sym (yes-length (c .before .before .spell .ensures) (c .before .if1 .taken))
+slice-aggregate-from-frame c = sym (yes-length (c .before .before .before .spell .ensures) (c .before .if1 .taken))
 
 from-frame-requires : tie.Need-from-frame-requires
 from-frame-requires c κs = search needs
@@ -33,6 +36,7 @@ pub show-frame-spec : {M : Type 1} → statement M
 show-frame-spec =
     tie.close
     (tie.spec
+    slice-aggregate-spell
     spell-requires
     slice-aggregate-from-frame
     from-frame-requires

@@ -1,9 +1,10 @@
 -- `layout::put_answer` meets its contract: each writer's part is said of the whole. Assumes nothing.
 use mathlib.Core.Path.{refl}
 use borrow.Author.Needs.{needs}
-use Rattle.layout.specs.Bytes.{two, four, words, signeds, halves}
+use Rattle.bytes.specs.Numbers.{two, four}
+use Rattle.layout.specs.Bytes.{words, signeds, halves}
 use Rattle.layout.specs.Places.{rangeByte, waveBytes, probitOf, probitBytes, damageOf, damageBytes, answerBytes}
-use Rattle.layout.specs.laws.Storing.{and-then, through-part}
+use Rattle.bytes.specs.laws.Storing.{and-then, through-part}
 use Rattle.layout.proofs.put_answer.Statement.{statement}
 use Rattle.layout.proofs.put_answer.Tie as tie
 

@@ -1,8 +1,9 @@
 -- `layout::put_damage` meets its contract: each part is stored after the one before. Assumes nothing.
 use borrow.Author.Needs.{needs}
-use Rattle.layout.specs.Bytes.{two, halves}
+use Rattle.bytes.specs.Numbers.{two}
+use Rattle.layout.specs.Bytes.{halves}
 use Rattle.layout.specs.Places.{damageOf}
-use Rattle.layout.specs.laws.Storing.{and-then}
+use Rattle.bytes.specs.laws.Storing.{and-then}
 use Rattle.layout.proofs.put_damage.Statement.{statement}
 use Rattle.layout.proofs.put_damage.Tie as tie
 

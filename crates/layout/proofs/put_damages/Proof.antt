@@ -1,9 +1,10 @@
 -- `layout::put_damages` meets its contract: each part is stored after the one before. Assumes nothing.
 use mathlib.Core.Path.{refl}
 use borrow.Author.Needs.{needs}
-use Rattle.layout.specs.Bytes.{two, halves}
+use Rattle.bytes.specs.Numbers.{two}
+use Rattle.layout.specs.Bytes.{halves}
 use Rattle.layout.specs.Places.{damageOf, damageBytes}
-use Rattle.layout.specs.laws.Storing.{and-then}
+use Rattle.bytes.specs.laws.Storing.{and-then}
 use Rattle.layout.proofs.put_damages.Statement.{statement}
 use Rattle.layout.proofs.put_damages.Tie as tie
 

@@ -1,7 +1,8 @@
 -- `layout::put_ends` meets its contract: each part is stored after the one before. Assumes nothing.
 use borrow.Author.Needs.{needs}
-use Rattle.layout.specs.Bytes.{four, words}
-use Rattle.layout.specs.laws.Storing.{and-then}
+use Rattle.bytes.specs.Numbers.{four}
+use Rattle.layout.specs.Bytes.{words}
+use Rattle.bytes.specs.laws.Storing.{and-then}
 use Rattle.layout.proofs.put_ends.Statement.{statement}
 use Rattle.layout.proofs.put_ends.Tie as tie
 

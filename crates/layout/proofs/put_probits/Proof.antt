@@ -1,9 +1,10 @@
 -- `layout::put_probits` meets its contract: each part is stored after the one before. Assumes nothing.
 use mathlib.Core.Path.{refl}
 use borrow.Author.Needs.{needs}
-use Rattle.layout.specs.Bytes.{four, signeds}
+use Rattle.bytes.specs.Numbers.{four}
+use Rattle.layout.specs.Bytes.{signeds}
 use Rattle.layout.specs.Places.{probitOf, probitBytes}
-use Rattle.layout.specs.laws.Storing.{and-then}
+use Rattle.bytes.specs.laws.Storing.{and-then}
 use Rattle.layout.proofs.put_probits.Statement.{statement}
 use Rattle.layout.proofs.put_probits.Tie as tie
 

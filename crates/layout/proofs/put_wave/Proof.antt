@@ -1,8 +1,9 @@
 -- `layout::put_wave` meets its contract: each part is stored after the one before. Assumes nothing.
 use borrow.Author.Needs.{needs}
-use Rattle.layout.specs.Bytes.{four, words}
+use Rattle.bytes.specs.Numbers.{four}
+use Rattle.layout.specs.Bytes.{words}
 use Rattle.layout.specs.Places.{waveBytes}
-use Rattle.layout.specs.laws.Storing.{and-then}
+use Rattle.bytes.specs.laws.Storing.{and-then}
 use Rattle.layout.proofs.put_wave.Statement.{statement}
 use Rattle.layout.proofs.put_wave.Tie as tie
 

@@ -1,129 +1,14 @@
--- `limits::check` meets its contract: each answer is that of a test, in the order of the list. Assumes nothing.
-use mathlib.Core.Path.{sym, _∙_}
-use Rattle.refusals.specs.Order.{firstOf}
-use Rattle.limits.specs.Tests.{fieldTests}
+-- `limits::check` meets its contract: test 6 stands behind the others. Assumes nothing.
+use mathlib.Core.Path.{ap, _∙_}
+use mathlib.Core.Bool.{false}
 use borrow.Author.Needs.{needs}
+use Rattle.limits.specs.Checks.{heatChecked}
+use Rattle.limits.specs.laws.Checks.{case-checked}
 use Rattle.limits.proofs.check.Statement.{statement}
 use Rattle.limits.proofs.check.Tie as tie
 
-is-outside-requires : tie.Need-is-outside-requires
-is-outside-requires c κs = search needs
-
 returns : tie.Need-returns
-unfolding firstOf fieldTests
-returns c = simp (sym (c .before .is-outside .ensures) ∙ c .if1 .taken)
-
-is-outside-requires-2 : tie.Need-is-outside-requires-2
-is-outside-requires-2 c κs = search needs
-
-returns-2 : tie.Need-returns-2
-unfolding firstOf fieldTests
-returns-2 c =
-    let p1 = c .before .before in
-    simp (
-      sym (p1 .before .is-outside .ensures) ∙ p1 .if1 .left,
-      sym (c .before .is-outside2 .ensures) ∙ c .if2 .taken,
-    )
-
-is-outside-requires-3 : tie.Need-is-outside-requires-3
-is-outside-requires-3 c κs = search needs
-
-returns-3 : tie.Need-returns-3
-unfolding firstOf fieldTests
-returns-3 c =
-    let p2 = c .before .before in
-    let p1 = p2 .before .before in
-    simp (
-      sym (p1 .before .is-outside .ensures) ∙ p1 .if1 .left,
-      sym (p2 .before .is-outside2 .ensures) ∙ p2 .if2 .left,
-      sym (c .before .is-outside3 .ensures) ∙ c .if3 .taken,
-    )
-
-is-outside-requires-4 : tie.Need-is-outside-requires-4
-is-outside-requires-4 c κs = search needs
-
-returns-4 : tie.Need-returns-4
-unfolding firstOf fieldTests
-returns-4 c =
-    let p3 = c .before .before in
-    let p2 = p3 .before .before in
-    let p1 = p2 .before .before in
-    simp (
-      sym (p1 .before .is-outside .ensures) ∙ p1 .if1 .left,
-      sym (p2 .before .is-outside2 .ensures) ∙ p2 .if2 .left,
-      sym (p3 .before .is-outside3 .ensures) ∙ p3 .if3 .left,
-      sym (c .before .is-outside4 .ensures) ∙ c .if4 .taken,
-    )
-
-quantity-outside-requires : tie.Need-quantity-outside-requires
-quantity-outside-requires c κs = search needs
-
-returns-5 : tie.Need-returns-5
-unfolding firstOf fieldTests
-returns-5 c =
-    let p4 = c .before .before in
-    let p3 = p4 .before .before in
-    let p2 = p3 .before .before in
-    let p1 = p2 .before .before in
-    simp (
-      sym (p1 .before .is-outside .ensures) ∙ p1 .if1 .left,
-      sym (p2 .before .is-outside2 .ensures) ∙ p2 .if2 .left,
-      sym (p3 .before .is-outside3 .ensures) ∙ p3 .if3 .left,
-      sym (p4 .before .is-outside4 .ensures) ∙ p4 .if4 .left,
-      sym (c .before .quantity-outside .ensures) ∙ c .if5 .taken,
-    )
-
-heat-missing-requires : tie.Need-heat-missing-requires
-heat-missing-requires c κs = search needs
-
-returns-6 : tie.Need-returns-6
-unfolding firstOf fieldTests
-returns-6 c =
-    let p5 = c .before .before in
-    let p4 = p5 .before .before in
-    let p3 = p4 .before .before in
-    let p2 = p3 .before .before in
-    let p1 = p2 .before .before in
-    simp (
-      sym (p1 .before .is-outside .ensures) ∙ p1 .if1 .left,
-      sym (p2 .before .is-outside2 .ensures) ∙ p2 .if2 .left,
-      sym (p3 .before .is-outside3 .ensures) ∙ p3 .if3 .left,
-      sym (p4 .before .is-outside4 .ensures) ∙ p4 .if4 .left,
-      sym (p5 .before .quantity-outside .ensures) ∙ p5 .if5 .left,
-      sym (c .before .heat-missing .ensures) ∙ c .if6 .taken,
-    )
-
-returns-7 : tie.Need-returns-7
-unfolding firstOf fieldTests
-returns-7 c =
-    let p5 = c .before .before in
-    let p4 = p5 .before .before in
-    let p3 = p4 .before .before in
-    let p2 = p3 .before .before in
-    let p1 = p2 .before .before in
-    simp (
-      sym (p1 .before .is-outside .ensures) ∙ p1 .if1 .left,
-      sym (p2 .before .is-outside2 .ensures) ∙ p2 .if2 .left,
-      sym (p3 .before .is-outside3 .ensures) ∙ p3 .if3 .left,
-      sym (p4 .before .is-outside4 .ensures) ∙ p4 .if4 .left,
-      sym (p5 .before .quantity-outside .ensures) ∙ p5 .if5 .left,
-      sym (c .before .heat-missing .ensures) ∙ c .if6 .left,
-    )
+returns c = c .check-heat .ensures ∙ ap (heatChecked false) (c .before .check-values .ensures) ∙ case-checked _
 
 pub check-spec : {M : Type 1} → statement M
-check-spec =
-    tie.close
-    (tie.spec
-    is-outside-requires
-    returns
-    is-outside-requires-2
-    returns-2
-    is-outside-requires-3
-    returns-3
-    is-outside-requires-4
-    returns-4
-    quantity-outside-requires
-    returns-5
-    heat-missing-requires
-    returns-6
-    returns-7)
+check-spec = tie.close (tie.spec (λ c κs. search needs) (λ c κs. search needs) returns)

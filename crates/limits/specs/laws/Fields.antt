@@ -1,7 +1,7 @@
 -- What is known of a case that passes tests 3 to 6. Assumes nothing.
 use Prim.Native.Nat.{ℕ, zero, suc, _*_}
 use mathlib.Core.Path.{_≡_, refl, sym, _∙_}
-use mathlib.Core.Bool.{_&&_, _||_}
+use mathlib.Core.Bool.{_&&_}
 use native.Mathlib.Omega.{arith}
 use lib.Dec.{eqb}
 use borrow.Author.Tests.{ne-eqb, eqb-false}
@@ -9,9 +9,9 @@ use Rattle.guidance.specs.declared.Case.{Case}
 use Rattle.guidance.specs.Substances.{betaOf, heatOf}
 use Rattle.guidance.specs.Cases.{Fields}
 use Rattle.guidance.specs.CloudWords.{Heated}
-use Rattle.refusals.specs.laws.Order.{neither, Passed}
+use Rattle.refusals.specs.laws.Order.{none-of, Passed}
 use Rattle.limits.specs.laws.Limits.{inside}
-use Rattle.limits.specs.Tests.{outside, quantityOutside, heatMissing, fieldTests}
+use Rattle.limits.specs.Tests.{outside, quantityOutside, heatMissing, valueTests, fieldTests}
 
 -- no heat is a heat of 0
 no-product : (n : ℕ) → eqb n 0 ≡ eqb (440 * n) 0
@@ -29,40 +29,33 @@ heat-missing c = no-heat (c .substance) (c .heat)
 
 module _ (c : Case) (p : Passed (fieldTests c)) where
   pub fields : Fields c
-  unfolding fieldTests quantityOutside
+  unfolding fieldTests valueTests quantityOutside
   fields =
       let surroundings = p .1 .1 .1 .0 in
-      let mass = outside 1 1000000000 (c .mass) in
-      let mean = outside 1 50000 (c .mean) in
-      let stoichiometric = outside 1 50000 (c .stoichiometric) in
-      let heat = outside 0 150000 (c .heat) in
-      let distance = outside 1 1000000 (c .distance) in
-      let q5 = neither (mass || mean || stoichiometric || heat || distance) (outside 1 500 (c .body)) (p .1 .1 .1 .1 .0) in
-      let q4 = neither (mass || mean || stoichiometric || heat) distance (q5 .0) in
-      let q3 = neither (mass || mean || stoichiometric) heat (q4 .0) in
-      let q2 = neither (mass || mean) stoichiometric (q3 .0) in
-      let q1 = neither mass mean (q2 .0) in
+      let q =
+      none-of (outside 1 1000000000 (c .mass)) (outside 1 50000 (c .mean)) (outside 1 50000 (c .stoichiometric)) (outside 0 150000 (c .heat)) (outside 1 1000000 (c .distance)) (outside 1 500 (c .body))
+      (p .1 .1 .1 .1 .0) in
       record {
         substance = inside 0 75 (c .substance) (p .0) .1;
         state = inside 0 1 (c .state) (p .1 .0) .1;
         placement = inside 0 1 (c .placement) (p .1 .1 .0) .1;
         surroundings = inside 1 4 (c .surroundings) surroundings .0;
         surroundings-most = inside 1 4 (c .surroundings) surroundings .1;
-        mass = inside 1 1000000000 (c .mass) (q1 .0) .0;
-        mass-most = inside 1 1000000000 (c .mass) (q1 .0) .1;
-        mean = inside 1 50000 (c .mean) (q1 .1) .0;
-        mean-most = inside 1 50000 (c .mean) (q1 .1) .1;
-        stoichiometric = inside 1 50000 (c .stoichiometric) (q2 .1) .0;
-        stoichiometric-most = inside 1 50000 (c .stoichiometric) (q2 .1) .1;
-        heat-most = inside 0 150000 (c .heat) (q3 .1) .1;
-        distance = inside 1 1000000 (c .distance) (q4 .1) .0;
-        distance-most = inside 1 1000000 (c .distance) (q4 .1) .1;
-        body = inside 1 500 (c .body) (q5 .1) .0;
-        body-most = inside 1 500 (c .body) (q5 .1) .1;
+        mass = inside 1 1000000000 (c .mass) (q .0) .0;
+        mass-most = inside 1 1000000000 (c .mass) (q .0) .1;
+        mean = inside 1 50000 (c .mean) (q .1) .0;
+        mean-most = inside 1 50000 (c .mean) (q .1) .1;
+        stoichiometric = inside 1 50000 (c .stoichiometric) (q .2) .0;
+        stoichiometric-most = inside 1 50000 (c .stoichiometric) (q .2) .1;
+        heat-most = inside 0 150000 (c .heat) (q .3) .1;
+        distance = inside 1 1000000 (c .distance) (q .4) .0;
+        distance-most = inside 1 1000000 (c .distance) (q .4) .1;
+        body = inside 1 500 (c .body) (q .5) .0;
+        body-most = inside 1 500 (c .body) (q .5) .1;
       }
 
   pub heated : Heated c
-  unfolding fieldTests
+  unfolding fieldTests valueTests
   heated =
       record {
         fields = fields;

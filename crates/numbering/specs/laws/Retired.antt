@@ -4,8 +4,10 @@ use native.Mathlib.Omega.{arith}
 use Rattle.refusals.specs.laws.Numbers.{no-fault}
 use Rattle.frame.specs.declared.Refusal.the-variants as answers
 use Rattle.ring.specs.declared.Refusal.the-variants as rings
+use Rattle.writable.specs.declared.Refusal.the-variants as writings
+use Rattle.from_old.specs.declared.Refusal.the-variants as old-lines
 use Rattle.numbering.specs.Entries.{Refused, number}
-use Rattle.numbering.specs.Entries.Refused.{answer, ring}
+use Rattle.numbering.specs.Entries.Refused.{answer, ring, writing, oldLine}
 
 pub retired : (r : Refused) → number r ≡ 4 → ⊥
 retired (answer (answers.Faulty f)) = no-fault 4 refl f
@@ -15,3 +17,9 @@ retired (ring (rings.Faulty f)) = no-fault 4 refl f
 retired (ring rings.Threshold) = λ e. omega arith
 retired (ring rings.Weak) = λ e. omega arith
 retired (ring rings.Strong) = λ e. omega arith
+retired (writing (writings.Faulty f)) = no-fault 4 refl f
+retired (writing writings.Space) = λ e. omega arith
+retired (oldLine (old-lines.Unwritten (writings.Faulty f))) = no-fault 4 refl f
+retired (oldLine (old-lines.Unwritten writings.Space)) = λ e. omega arith
+retired (oldLine old-lines.Tag) = λ e. omega arith
+retired (oldLine old-lines.Double) = λ e. omega arith

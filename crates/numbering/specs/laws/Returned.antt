@@ -3,6 +3,7 @@ use Prim.Native.Nat.{ℕ}
 use mathlib.Core.Path.{_≡_, sym, _∙_}
 use mathlib.Core.List.{List}
 use native.Mathlib.Omega.{arith}
+use lib.ListN.{length}
 use Rattle.exact.specs.Formula.{Formula}
 use Rattle.guidance.specs.declared.Case.{Case}
 use Rattle.frame.specs.declared.Verdict.{Verdict}
@@ -11,9 +12,18 @@ use Rattle.frame.specs.Refusals.{code}
 use Rattle.frame.specs.Verdicts.{answerLength, frameVerdict}
 use Rattle.ring.specs.declared.Answer as answers
 use Rattle.ring.specs.declared.Answer.the-variants as rings
+use Rattle.writable.specs.declared.Verdict as verdicts
+use Rattle.writable.specs.declared.Verdict.the-variants as written
+use Rattle.writable.specs.Refusals as writings
+use Rattle.from_old.specs.declared.Verdict as old-verdicts
+use Rattle.from_old.specs.declared.Verdict.the-variants as old-line
+use Rattle.from_old.specs.Refusals as old-lines
+use Rattle.from_old.specs.Tests.{lineVerdict}
+use Rattle.to_old.specs.Tests as old-tests
 use Rattle.linked.specs.Codes.{Entered, FigureAnswered}
 use Rattle.linked.specs.Rings.{Given, Answered}
-use Rattle.numbering.specs.Entries.Refused.{answer, ring}
+use Rattle.linked.specs.OldLines.{CameIn, WentBack}
+use Rattle.numbering.specs.Entries.Refused.{answer, ring, writing, oldLine}
 use Rattle.numbering.specs.laws.Retired.{retired}
 
 code-retired : (v : Verdict) → code v ≡ 4 → ⊥
@@ -35,3 +45,18 @@ given-not-4 (rings.Refused r) inner outer n i o g h = retired (ring r) (sym (g .
 
 pub ring-not-4 : {Fits : answers.Answer → Type 0} {inner outer n i o : ℕ} → Answered Fits inner outer n i o → n ≡ 4 → ⊥
 ring-not-4 a h = given-not-4 (a .answer) _ _ _ _ _ (a .given) h
+
+-- an old line, in and back
+pub came-in-not-4 : {line before after : List ℕ} {n : ℕ} → CameIn line before n after → n ≡ 4 → ⊥
+came-in-not-4 {line} {before} e h = go (lineVerdict line (length before)) (sym (e .returned) ∙ h)
+  where
+    go : (v : old-verdicts.Verdict) → old-lines.code v ≡ 4 → ⊥
+    go (old-line.Accepted c) = λ z. omega arith
+    go (old-line.Refused r) = retired (oldLine r)
+
+pub went-back-not-4 : {frame before after : List ℕ} {n : ℕ} → WentBack frame before n after → n ≡ 4 → ⊥
+went-back-not-4 {frame} {before} e h = go (old-tests.frameVerdict frame (length before)) (sym (e .returned) ∙ h)
+  where
+    go : (v : verdicts.Verdict) → writings.code v ≡ 4 → ⊥
+    go (written.Accepted c) = λ z. omega arith
+    go (written.Refused r) = retired (writing r)

@@ -8,8 +8,10 @@ use Rattle.refusals.specs.declared.Fault.the-variants.{Length, Digit, Substance
 use Rattle.refusals.specs.Faults as faults
 use Rattle.frame.specs.declared.Refusal.the-variants as answers
 use Rattle.ring.specs.declared.Refusal.the-variants as rings
+use Rattle.writable.specs.declared.Refusal.the-variants as writings
+use Rattle.from_old.specs.declared.Refusal.the-variants as old-lines
 use Rattle.numbering.specs.Entries.{Refused, number, word}
-use Rattle.numbering.specs.Entries.Refused.{answer, ring}
+use Rattle.numbering.specs.Entries.Refused.{answer, ring, writing, oldLine}
 
 -- the words by their numbers from 0 on; an accepted case has none, and 4 has none any more
 abbrev pub words : List (List ℕ)
@@ -29,6 +31,8 @@ words =
     ∷ faults.word State
     ∷ faults.word Placement
     ∷ faults.word Surroundings
+    ∷ word (oldLine old-lines.Tag)
+    ∷ word (oldLine old-lines.Double)
     ∷ []
 
 fault-listed : (f : Fault) → faults.word f ≡ getD words (faults.number f) []
@@ -49,6 +53,12 @@ listed (ring (rings.Faulty f)) = fault-listed f
 listed (ring rings.Threshold) = refl
 listed (ring rings.Weak) = refl
 listed (ring rings.Strong) = refl
+listed (writing (writings.Faulty f)) = fault-listed f
+listed (writing writings.Space) = refl
+listed (oldLine (old-lines.Unwritten (writings.Faulty f))) = fault-listed f
+listed (oldLine (old-lines.Unwritten writings.Space)) = refl
+listed (oldLine old-lines.Tag) = refl
+listed (oldLine old-lines.Double) = refl
 
 pub one-word : (r q : Refused) → number r ≡ number q → word r ≡ word q
 one-word r q e = listed r ∙ ap (λ (n : ℕ). getD words n []) e ∙ sym (listed q)

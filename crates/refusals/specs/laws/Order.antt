@@ -13,6 +13,18 @@ pub neither : (a b : Bool) → (a || b) ≡ false → (a ≡ false) × (b ≡ fa
 neither false b h = (refl, h)
 neither true b h = absurd (true≢false h)
 
+-- none of six
+pub none-of : (a b c d e f : Bool) → (a || b || c || d || e || f) ≡ false → (a ≡ false) × (b ≡ false) × (c ≡ false) × (d ≡ false) × (e ≡ false) × (f ≡ false)
+none-of false false false false false f h = (refl, refl, refl, refl, refl, h)
+none-of true b c d e f h = absurd (true≢false h)
+none-of false true c d e f h = absurd (true≢false h)
+none-of false false true d e f h = absurd (true≢false h)
+none-of false false false true e f h = absurd (true≢false h)
+none-of false false false false true f h = absurd (true≢false h)
+
+pub none-applies : {a b c d e f : Bool} → a ≡ false → b ≡ false → c ≡ false → d ≡ false → e ≡ false → f ≡ false → (a || b || c || d || e || f) ≡ false
+none-applies p q r s t u = simp (p, q, r, s, t, u)
+
 module _ {R S : Type 0} (by : R → S) where
   -- what the first finds, else the second
   abbrev pub orElse : Option R → Option S → Option S
@@ -38,6 +50,13 @@ module _ {R S : Type 0} (by : R → S) where
   neither-found (some r) b h = absurd (Option·some-ne-none (by r) h)
 
 module _ {R : Type 0} where
+  -- tests of one type behind others
+  pub first-append : (ts us : List (Test R)) → firstOf (ts ++ us) ≡ orElse (λ (r : R). r) (firstOf ts) (firstOf us)
+  unfolding firstOf
+  first-append [] us = refl
+  first-append ((q when true) ∷ later) us = refl
+  first-append ((q when false) ∷ later) us = first-append later us
+
   -- no test of a list applies
   abbrev pub Passed : List (Test R) → Type 0
   Passed [] = Unit {0}

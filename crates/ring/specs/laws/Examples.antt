@@ -12,7 +12,7 @@ use Rattle.guidance.specs.Waves.{standardAir}
 use Rattle.refusals.specs.declared.Fault.the-variants.{Surroundings}
 use Rattle.refusals.specs.Order.{firstOf, held}
 use Rattle.fields.specs.Bytes.{fieldsOf}
-use Rattle.limits.specs.Tests.{quantityOutside, heatMissing, fieldTests}
+use Rattle.limits.specs.Tests.{quantityOutside, heatMissing, valueTests, fieldTests}
 use Rattle.frame.specs.Tests.{frameTests}
 use Rattle.frame.specs.laws.Examples.{settings}
 use Rattle.answer.specs.KnownCases.{q, propane}
@@ -41,7 +41,7 @@ unfolding fieldsOf moved farther less cubed metres cube24 power whole _⊗_ ener
 beyond = refl
 
 pub examples : Examples
-unfolding tests lastTests firstOf held frameTests fieldTests quantityOutside heatMissing fieldsOf betas betaOf
+unfolding tests lastTests firstOf held frameTests fieldTests valueTests quantityOutside heatMissing fieldsOf betas betaOf
 examples =
     record {
       threshold-0 = refl;

@@ -5,11 +5,14 @@ use borrow.Author.Needs.{needs}
 use Rattle.known_cases.proofs.answers.answer_as_frame.Statement.{statement}
 use Rattle.known_cases.proofs.answers.answer_as_frame.Tie as tie
 
+slice-aggregate-spell : tie.Need-slice-aggregate-spell
+slice-aggregate-spell c = search needs
+
 spell-requires : tie.Need-spell-requires
 spell-requires c κs = search needs
 
 slice-aggregate-answer-to-frame : tie.Need-slice-aggregate-answer-to-frame
-slice-aggregate-answer-to-frame c = sym (yes-length (c .before .before .spell .ensures) (c .before .if1 .taken))
+slice-aggregate-answer-to-frame c = sym (yes-length (c .before .before .before .spell .ensures) (c .before .if1 .taken))
 
 answer-to-frame-requires : tie.Need-answer-to-frame-requires
 answer-to-frame-requires c κs = search needs
@@ -27,6 +30,7 @@ pub answer-as-frame-spec : {M : Type 1} → statement M
 answer-as-frame-spec =
     tie.close
     (tie.spec
+    slice-aggregate-spell
     spell-requires
     slice-aggregate-answer-to-frame
     answer-to-frame-requires

@@ -1,0 +1,4 @@
+pub mod Doubles
+pub mod Bits
+pub mod RoundTrip
+pub mod laws

@@ -1,0 +1,4 @@
+-- Laws of the definitions.
+pub mod Readings
+pub mod Verdicts
+pub mod Numbers

@@ -1,0 +1,77 @@
+-- The verdict on an old line, from what reading it gave, and what is known of an accepted one. Assumes nothing.
+use Prim.Native.Nat.{ℕ, _≤_}
+use mathlib.Core.Path.{_≡_, refl, sym, ap, _∙_}
+use mathlib.Core.Bool.{true, false}
+use mathlib.Core.List.{List, [], _∷_}
+use mathlib.Core.Option.{Option, none, some}
+use native.Mathlib.Omega.{arith}
+use Rattle.guidance.specs.declared.Case.{Case}
+use Rattle.refusals.specs.Order.{Test, _when_, firstOf, held}
+use Rattle.refusals.specs.laws.Order.{orElse, first-append}
+use Rattle.hexadecimals.specs.Digits.{bytesOf}
+use Rattle.writable.specs.declared.Refusal as unwritten
+use Rattle.writable.specs.declared.Verdict as writable
+use Rattle.writable.specs.declared.Verdict.the-variants as written
+use Rattle.writable.specs.Verdicts as tests
+use Rattle.writable.specs.Verdicts.{placed}
+use Rattle.writable.specs.laws.Verdicts.{space-last, accepted, accepts}
+use Rattle.old_case.specs.declared.OldCase.{OldCase}
+use Rattle.old_case.specs.Cases.{caseOf}
+use Rattle.old_bytes.specs.Bytes.{oldOf}
+use Rattle.from_old.specs.declared.Refusal.{Refusal}
+use Rattle.from_old.specs.declared.Refusal.the-variants.{Unwritten}
+use Rattle.from_old.specs.declared.Verdict.the-variants.{Accepted, Refused}
+use Rattle.from_old.specs.Tests.{readingTests, wholeTests, lineTests, verdictBy, lineVerdict}
+use Rattle.from_old.specs.Steps.{readingBy, lineReading, wholesChecked, heldBy, judged}
+use Rattle.from_old.specs.laws.Readings.{Read, line-read, read-passes}
+
+held-verdict : (ts : List (Test unwritten.Refusal)) (c : Case) → verdictBy (firstOf (held Unwritten ts)) c ≡ heldBy (tests.verdictBy (firstOf ts) c)
+unfolding firstOf held
+held-verdict [] c = refl
+held-verdict ((r when true) ∷ later) c = refl
+held-verdict ((r when false) ∷ later) c = held-verdict later c
+
+held-accepted : (v : writable.Verdict) {c : Case} → heldBy v ≡ Accepted c → v ≡ written.Accepted c
+held-accepted (written.Accepted d) {c} h = let e : d ≡ c = cc in ap {B = writable.Verdict} written.Accepted e
+held-accepted (written.Refused r) h = let z : _≡_ {A = ℕ} 0 1 = cc in absurd (omega arith)
+
+-- an accepted line: the case is that of its whole numbers, which pass tests 3 to 6, and its frame has room
+pub record LineTaken (line : List ℕ) (room : ℕ) (c : Case) : Type 0 where
+  pub read : Read line
+  pub same : c ≡ caseOf (oldOf (bytesOf line))
+  pub sound : firstOf (wholeTests (oldOf (bytesOf line))) ≡ none
+  pub room-for : 22 ≤ room
+
+module _ (line : List ℕ) (room : ℕ) where
+  abbrev o : OldCase
+  o = oldOf (bytesOf line)
+
+  abbrev last : List (Test unwritten.Refusal)
+  last = tests.writableTests (wholeTests o) 22 room
+
+  -- what reading found stands, else tests 3 to 6 and 8 decide
+  pub line-judged : judged (lineReading line) room ≡ lineVerdict line room
+  unfolding lineReading lineVerdict lineTests
+  line-judged = go (firstOf (readingTests line)) ∙ sym (ap (λ (r : Option Refusal). verdictBy r (caseOf o)) (first-append (readingTests line) (held Unwritten last)))
+    where
+      go : (r : Option Refusal) → judged (readingBy r o) room ≡ verdictBy (orElse (λ (q : Refusal). q) r (firstOf (held Unwritten last))) (caseOf o)
+      go none = ap heldBy (space-last (wholeTests o) 22 room (caseOf o)) ∙ sym (held-verdict last (caseOf o))
+      go (some r) = refl
+
+  pub line-accepted : (c : Case) → lineVerdict line room ≡ Accepted c → LineTaken line room c
+  unfolding lineReading
+  line-accepted c h = go (firstOf (readingTests line)) refl (line-judged ∙ h)
+    where
+      go : (r : Option Refusal) → firstOf (readingTests line) ≡ r → judged (readingBy r o) room ≡ Accepted c → LineTaken line room c
+      go none e j =
+          let a = accepted (wholeTests o) 22 room (caseOf o) (sym (space-last (wholeTests o) 22 room (caseOf o)) ∙ held-accepted (placed (wholesChecked o) 22 room) j) in
+          record { read = line-read line e; same = a .0; sound = a .1; room-for = a .2 }
+      go (some r) e j = let z : _≡_ {A = ℕ} 0 1 = cc in absurd (omega arith)
+
+  -- and such a line is accepted
+  pub line-accepts : Read line → firstOf (wholeTests o) ≡ none → 22 ≤ room → lineVerdict line room ≡ Accepted (caseOf o)
+  unfolding lineReading
+  line-accepts r h l =
+      sym line-judged
+      ∙ ap (λ (q : Option Refusal). judged (readingBy q o) room) (read-passes line r)
+      ∙ ap heldBy (space-last (wholeTests o) 22 room (caseOf o) ∙ accepts (wholeTests o) 22 room (caseOf o) h l)

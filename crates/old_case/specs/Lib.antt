@@ -1,0 +1,4 @@
+pub mod Fields
+pub mod Cases
+pub mod Exactly
+pub mod laws

@@ -1,0 +1,4 @@
+-- Laws of the definitions.
+pub mod Usable
+pub mod Fractions
+pub mod Trip

@@ -1,0 +1,141 @@
+-- What holds of the two ways together. Assumes nothing.
+use Prim.Native.Nat.{ℕ, _≤_}
+use mathlib.Core.Path.{_≡_, sym, ap, _∙_, subst}
+use mathlib.Core.Bool.{true}
+use mathlib.Core.List.{List, _++_}
+use mathlib.Core.Option.{none}
+use native.Mathlib.Omega.{arith}
+use lib.ListN.{length}
+use Rattle.guidance.specs.declared.Case.{Case}
+use Rattle.guidance.specs.Cases.{Fields}
+use Rattle.refusals.specs.Order.{firstOf}
+use Rattle.hexadecimals.specs.Digits.{bytesOf}
+use Rattle.hexadecimals.specs.Written.{digitsOf, upperCase}
+use Rattle.hexadecimals.specs.laws.Spelling.{length-bytesOf}
+use Rattle.hexadecimals.specs.laws.Writing.{length-digits}
+use Rattle.hexadecimals.specs.laws.Written.{bytes-of-digits, all-digits, upper-digits, digits-of-bytes, spelled-bytes}
+use Rattle.fields.specs.Bytes.{fieldsOf, frameBytes}
+use Rattle.fields.specs.laws.Back.{frame-length, frame-bytes, frame-again, fields-again}
+use Rattle.limits.specs.Tests.{valueTests, heatTests, fieldTests}
+use Rattle.limits.specs.laws.Checks.{none-lost, heat-clear, heated-by}
+use Rattle.frame.specs.Tests.{frameTests}
+use Rattle.frame.specs.laws.Checks.{frame-case, frame-clear}
+use Rattle.writable.specs.declared.Verdict.the-variants as written
+use Rattle.writable.specs.laws.Verdicts.{accepts}
+use Rattle.old_case.specs.declared.OldCase.{OldCase}
+use Rattle.old_case.specs.Cases.{unusableIn, caseOf, lostHeat, oldCaseOf}
+use Rattle.old_bytes.specs.Bytes.{oldOf, oldBytes, misplaced}
+use Rattle.old_case.specs.Exactly.{AllExactly}
+use Rattle.old_case.specs.laws.Fractions.{all-usable}
+use Rattle.old_bytes.specs.laws.Back.{old-length, old-bytes, old-again, tags-in-place, bytes-again, bytes-fit}
+use Rattle.old_case.specs.laws.Trip.{fitting, case-again, heat-kept, all-exactly, old-kept}
+use Rattle.from_old.specs.declared.Verdict.{Verdict}
+use Rattle.from_old.specs.declared.Verdict.the-variants.{Accepted}
+use Rattle.from_old.specs.Tests.{wholeTests, lineVerdict}
+use Rattle.to_old.specs.Tests.{frameVerdict}
+use Rattle.to_old.specs.Entry.{oldLine}
+use Rattle.old_form.specs.RoundTrip.{Sound, RoundTrip}
+use Rattle.from_old.specs.laws.Readings.{Read}
+use Rattle.from_old.specs.laws.Verdicts.{LineTaken, line-accepted, line-accepts}
+
+-- a case with its fields in their values: its line is read as its old case
+module _ (c : Case) (f : Fields c) where
+  abbrev o : OldCase
+  o = oldCaseOf c
+
+  line-length : length (oldLine c) ≡ 116
+  line-length = omega (arith, length-digits (oldBytes o), old-length o)
+
+  line-bytes : bytesOf (oldLine c) ≡ oldBytes o
+  line-bytes = bytes-of-digits (oldBytes o) (old-bytes o)
+
+  read-again : oldOf (oldBytes o) ≡ o
+  read-again = old-again o (fitting c f)
+
+  line-holds : oldOf (bytesOf (oldLine c)) ≡ o
+  line-holds = ap oldOf line-bytes ∙ read-again
+
+  line-reads : Read (oldLine c)
+  line-reads =
+      record {
+        size = line-length;
+        digits = all-digits (oldBytes o) (old-bytes o);
+        tags = ap misplaced line-bytes ∙ tags-in-place o;
+        usable = ap unusableIn line-holds ∙ all-usable c f;
+      }
+
+  -- and accepted, if the case passes tests 3 to 6
+  wholes-sound : firstOf (fieldTests c) ≡ none → firstOf (wholeTests o) ≡ none
+  unfolding wholeTests
+  wholes-sound h = (λ k. firstOf (valueTests (case-again c f k) ++ heatTests (heat-kept c f k) (case-again c f k))) ∙ none-lost c ∙ h
+
+  accepted-again : (room : ℕ) → firstOf (fieldTests c) ≡ none → 22 ≤ room → lineVerdict (oldLine c) room ≡ Accepted c
+  accepted-again room h r =
+      line-accepts (oldLine c) room line-reads (ap (λ (k : OldCase). firstOf (wholeTests k)) line-holds ∙ wholes-sound h) r
+      ∙ ap {B = Verdict} Accepted (ap caseOf line-holds ∙ case-again c f)
+
+-- a frame of bytes that passes tests 1 to 6
+module _ (frame : List ℕ) (s : Sound frame) where
+  size : length frame ≡ 22
+  size = frame-clear frame (s .passes) .0
+
+  good : Fields (fieldsOf frame)
+  good = frame-clear frame (s .passes) .1 .fields
+
+  goes : (room : ℕ) → 116 ≤ room → frameVerdict frame room ≡ written.Accepted (fieldsOf frame)
+  unfolding frameVerdict
+  goes room r = accepts (frameTests frame) 116 room (fieldsOf frame) (s .passes) r
+
+  comes : (room : ℕ) → 22 ≤ room → lineVerdict (oldLine (fieldsOf frame)) room ≡ Accepted (fieldsOf frame)
+  comes room r = accepted-again (fieldsOf frame) good room (sym (frame-case frame size) ∙ s .passes) r
+
+  unchanged : frameBytes (fieldsOf frame) ≡ frame
+  unchanged = frame-again frame (s .bytes) size
+
+-- an accepted line
+module _ (line : List ℕ) (room : ℕ) (c : Case) (a : lineVerdict line room ≡ Accepted c) where
+  taken : LineTaken line room c
+  taken = line-accepted line room c a
+
+  sound : firstOf (fieldTests c) ≡ none
+  unfolding wholeTests
+  sound =
+      let o = oldOf (bytesOf line) in
+      subst (λ (k : Case). firstOf (fieldTests k) ≡ none) (sym (taken .same)) (heat-clear (lostHeat o) (caseOf o) (taken .sound) .1)
+
+  fields : Fields c
+  fields = heated-by c sound .fields
+
+  line-goes : Sound (frameBytes c) × (fieldsOf (frameBytes c) ≡ c)
+  line-goes = (
+    record {
+      bytes = frame-bytes c;
+      passes = frame-case (frameBytes c) (frame-length c) ∙ ap (λ (k : Case). firstOf (fieldTests k)) (fields-again c fields) ∙ sound;
+    },
+    fields-again c fields,
+  )
+
+  came-back : oldLine c ≡ line → AllExactly (oldOf (bytesOf line)) × (upperCase line ≡ true)
+  came-back e = (
+    subst (λ (l : List ℕ). AllExactly (oldOf (bytesOf l))) e
+        (subst (λ (s : List ℕ). AllExactly (oldOf s)) (sym (line-bytes c fields)) (subst (λ (o : OldCase). AllExactly o) (sym (read-again c fields)) (all-exactly c fields))),
+    subst (λ (l : List ℕ). upperCase l ≡ true) e (upper-digits (oldBytes (oldCaseOf c)) (old-bytes (oldCaseOf c))),
+  )
+
+  comes-back : AllExactly (oldOf (bytesOf line)) × (upperCase line ≡ true) → oldLine c ≡ line
+  comes-back h =
+      let r = taken .read in
+      ap oldLine (taken .same)
+      ∙ ap (λ (o : OldCase). digitsOf (oldBytes o)) (old-kept (oldOf (bytesOf line)) (bytes-fit (bytesOf line) (spelled-bytes line (r .digits))) (h .0))
+      ∙ ap digitsOf (bytes-again (bytesOf line) (spelled-bytes line (r .digits)) (length-bytesOf 58 line (r .size)) (r .tags) (r .usable))
+      ∙ digits-of-bytes 58 line (r .size) (r .digits) (h .1)
+
+pub round-trip : RoundTrip
+round-trip =
+    record {
+      frame-goes = λ frame room s r. goes frame s room r;
+      frame-comes = λ frame room s r. comes frame s room r;
+      frame-unchanged = unchanged;
+      line-goes = line-goes;
+      line-unchanged = λ line room c a. (came-back line room c a, comes-back line room c a);
+    }

@@ -1,0 +1,1 @@
+// What holds of the old form's two ways together; no code.

@@ -1,0 +1,3 @@
+-- Laws of the definitions.
+pub mod Verdicts
+pub mod Numbers
