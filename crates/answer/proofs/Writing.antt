@@ -2,11 +2,11 @@
 use mathlib.Core.Path.{_≡_, sym, ap, _∙_, subst}
 use Prim.Native.Nat.{ℕ, _≤_}
 use mathlib.Core.List.{List, _++_}
-use native.Mathlib.Nat.{zero-add}
 use native.Mathlib.Omega.{arith}
 use lib.ListN.{length, take, drop}
-use lib.Seq.{sets, sets-eq, length-sets, take-at, drop-at}
+use lib.Seq.{sets, length-sets, take-at, drop-at}
 use Rattle.guidance.specs.declared.Case.{Case}
+use Rattle.bytes.specs.laws.Storing.{at-start}
 use Rattle.layout.specs.laws.Places.{answer-length}
 use Rattle.layout.specs.Places.{answerBytes}
 use Rattle.layout.specs.Fitting.{Fit}
@@ -31,9 +31,6 @@ bytes f = answerBytes (f .range) (f .pressure) (f .impulse) (f .probits) (readin
 
 bytes-length : (f : Figures) → length (bytes f) ≡ 77
 bytes-length f = answer-length _ _ _ _ _
-
-at-start : (l vs : List ℕ) → length vs ≤ length l → sets l 0 vs ≡ vs ++ drop (length vs) l
-at-start l vs h = sets-eq vs l 0 (rw zero-add h) ∙ ap (λ (n : ℕ). vs ++ drop n l) (zero-add (length vs))
 
 module _ {c : Case} {f : Figures} (h : FiguresOf c f) where
   pub answered : Answer c (bytes f)

@@ -12,10 +12,11 @@ use limits::Checked;
 use old_case::OldCase;
 use refusals::Fault;
 
-// The bytes of a case frame, and the characters of an old line.
+// The bytes of a case frame.
 const FRAME: usize = 22;
 
-pub const LINE: usize = 116;
+// The characters of an old line.
+const LINE: usize = 116;
 
 // Why an old line has no frame: as any case that is to be written, or by tests 15 and 16, which stand behind 2.
 pub enum Refusal {

@@ -1,5 +1,4 @@
 mod Decimals
-mod Hexadecimals
 mod Scans
 mod Holds
 mod Behind

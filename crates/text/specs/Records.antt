@@ -6,14 +6,15 @@ use Rattle.frame.specs.declared.Verdict.{Verdict}
 use Rattle.frame.specs.declared.Verdict.the-variants.{Accepted, Refused}
 use Rattle.frame.specs.Refusals.{number}
 use Rattle.frame.specs.Verdicts.{lineVerdict}
+use Rattle.hexadecimals.specs.Written.{digitsOf}
 use Rattle.answer.specs.Answer.{Answer}
 use Rattle.text.specs.Lines.{lf}
-use Rattle.text.specs.Digits.{decimal, hexadecimal}
+use Rattle.text.specs.Digits.{decimal}
 
 -- R and the refusal's number, or A and the answer frame's digits
 unfoldable pub said : (v : Verdict) (frame : List ℕ) → List ℕ
 said (Refused r) frame = 82 ∷ decimal (number r)
-said (Accepted c) frame = 65 ∷ hexadecimal frame
+said (Accepted c) frame = 65 ∷ digitsOf frame
 
 -- of an accepted case the frame is an answer, of 77 bytes and so 154 digits
 unfoldable pub Answers : (v : Verdict) (frame : List ℕ) → Type 0

@@ -2,7 +2,8 @@
 ghost use Prim.Native.Nat.{_+_, _*_, _≤_, _<_};
 ghost use mathlib.Core.Path.{_≡_};
 ghost use lib.ListN.{length};
-ghost use Rattle.text.specs.Digits.{decimal, hexadecimal, upper as Digits·upper};
+ghost use Rattle.hexadecimals.specs.Written.{digitsOf};
+ghost use Rattle.text.specs.Digits.{decimal};
 ghost use Rattle.text.specs.Writers.{Puts};
 
 // How many decimal digits n has.
@@ -42,26 +43,11 @@ pub fn put_decimal(n: u64, out: &mut [u8]) -> usize
     k
 }
 
-fn upper(d: u8) -> u8
-    requires { ⌜ d < 16 ⌝ }
-    ensures { λ r. ⌜ r ≡ Digits·upper d ⌝ }
-{
-    if d < 10 { 48 + d } else { 55 + d }
-}
-
 // Two upper-case digits for each byte.
 pub fn put_hexadecimal(bytes: &[u8], out: &mut [u8]) -> usize
     requires { ⌜ 2 * length (now bytes) ≤ length (now out) ⌝ }
-    ensures { λ r. ⌜ Puts (hexadecimal (now (bytes .entry))) (2 * length (now (bytes .entry))) (now (out .entry)) (now (out .exit)) r ⌝ }
+    ensures { λ r. ⌜ Puts (digitsOf (now (bytes .entry))) (2 * length (now (bytes .entry))) (now (out .entry)) (now (out .exit)) r ⌝ }
 {
-    let mut i = 0;
-    let mut at = 0;
-    while i < bytes.len() {
-        let b = bytes[i];
-        out[at] = upper(b / 16);
-        out[at + 1] = upper(b % 16);
-        i += 1;
-        at += 2;
-    }
-    at
+    hexadecimals::write(bytes, out);
+    2 * bytes.len()
 }

@@ -20,9 +20,9 @@ fn end_at(area: &[u8; 80], i: usize, word: usize, half: usize) -> u64
     ensures { λ r. ⌜ (r ≡ endAt (now (area .entry)) i word half) × (r < 4295167296) ⌝ }
 {
     if i < 7 {
-        return figures::raised_word(figures::four(area, word + 8 * i));
+        return figures::raised_word(bytes::four_at(area, word + 8 * i));
     }
-    200000 + figures::two(area, half + 4 * i)
+    200000 + bytes::two_at(area, half + 4 * i)
 }
 
 // Whether two raised ends lie between the numbers of two words.

@@ -2,23 +2,8 @@
 ghost use mathlib.Core.Path.{_≡_};
 ghost use mathlib.Core.Bool.{_&&_};
 ghost use Prim.Native.Nat.{_+_, _≤_, _<_};
-ghost use Rattle.bytes.specs.Numbers.{twoAt, fourAt};
 ghost use Rattle.scan.specs.Words.{largest};
 ghost use Rattle.vectors.specs.Figures.{contained, closed, waveRight, raisedWord, raised as Figures·raised, probitRight, reached, rank, tenthsAt, damageRight, right};
-
-pub(crate) fn two(area: &[u8; 80], at: usize) -> u64
-    requires { ⌜ at + 1 < 80 ⌝ }
-    ensures { λ r. ⌜ (r ≡ twoAt (now (area .entry)) at) × (r < 65536) ⌝ }
-{
-    256 * scan::wide(area[at]) + scan::wide(area[at + 1])
-}
-
-pub(crate) fn four(area: &[u8; 80], at: usize) -> u64
-    requires { ⌜ at + 3 < 80 ⌝ }
-    ensures { λ r. ⌜ (r ≡ fourAt (now (area .entry)) at) × (r < 4294967296) ⌝ }
-{
-    65536 * two(area, at) + two(area, at + 2)
-}
 
 pub(crate) fn both(a: bool, b: bool) -> bool
     ensures { λ r. ⌜ r ≡ (a && b) ⌝ }
@@ -138,13 +123,13 @@ pub(crate) fn is_right(area: &[u8; 80], i: usize, lead: u8, value: u64, table: &
     requires { ⌜ (i < 7) × (value ≤ largest) ⌝ }
     ensures { λ r. ⌜ r ≡ right (now (area .entry)) i lead value (now (table .entry)) ⌝ }
 {
-    let lower = four(area, 1 + 8 * i);
-    let upper = four(area, 5 + 8 * i);
+    let lower = bytes::four_at(area, 1 + 8 * i);
+    let upper = bytes::four_at(area, 5 + 8 * i);
     if i < 2 {
         return is_wave(lower, upper, value);
     }
-    let first = two(area, 49 + 4 * i);
-    let second = two(area, 51 + 4 * i);
+    let first = bytes::two_at(area, 49 + 4 * i);
+    let second = bytes::two_at(area, 51 + 4 * i);
     let less = raised_word(lower);
     let more = raised_word(upper);
     let holds = is_probit(less, more, raised(200000000000000, lead, value));

@@ -34,9 +34,10 @@ through-part {L} {vs} {q} b k s within h =
     = sym (drop-append-le (length vs) (midOf b k L) (postOf b k L) (omega (arith, long))) ∙ ap (drop (length vs)) (take-append-drop k (drop b L)) ∙ drop-drop (length vs) b L in
     record { all = rw (part, append-assoc, rest, sets-eq vs L b (omega arith), append-assoc) }
 
+-- from the start on
+pub at-start : (l vs : List ℕ) → length vs ≤ length l → sets l 0 vs ≡ vs ++ drop (length vs) l
+at-start l vs h = sets-eq vs l 0 (rw zero-add h) ∙ ap (λ (n : ℕ). vs ++ drop n l) (zero-add (length vs))
+
 -- over the whole of a list
 pub sets-all : (l vs : List ℕ) → length vs ≡ length l → sets l 0 vs ≡ vs
-sets-all l vs h =
-    sets-eq vs l 0 (omega arith)
-    ∙ ap (λ (r : List ℕ). [] ++ vs ++ r) (drop-of-length-le l {i = 0 + length vs} (omega arith))
-    ∙ append-nil vs
+sets-all l vs h = at-start l vs (omega arith) ∙ ap (λ (r : List ℕ). vs ++ r) (drop-of-length-le l {i = length vs} (omega arith)) ∙ append-nil vs

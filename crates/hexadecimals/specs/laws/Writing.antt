@@ -4,9 +4,9 @@ use mathlib.Core.Path.{_≡_, refl, sym, ap, _∙_}
 use mathlib.Core.List.{List, [], _∷_, _++_}
 use native.Mathlib.Numerals.{add-one}
 use native.Mathlib.Omega.{arith}
-use lib.ListN.{length, getD, take, set}
+use lib.ListN.{length, getD, take, drop, set}
 use lib.Seq.{sets, length-sets, take-all, length-take-le, take-suc}
-use Rattle.bytes.specs.laws.Storing.{sets-sets}
+use Rattle.bytes.specs.laws.Storing.{sets-sets, at-start}
 use Rattle.hexadecimals.specs.Written.{upper, digitsOf}
 
 pub digits-append : (a b : List ℕ) → digitsOf (a ++ b) ≡ digitsOf a ++ digitsOf b
@@ -52,3 +52,7 @@ turn {bytes} {before} {area} {i} {a} {b} s h ea eb =
 
 pub ended : {bytes before area : List ℕ} {i : ℕ} → Writing bytes before area i → length bytes ≤ i → area ≡ sets before 0 (digitsOf bytes)
 ended {bytes} {before} {i = i} s h = s .text ∙ ap (λ (l : List ℕ). sets before 0 (digitsOf l)) (take-all i bytes h)
+
+-- the digits, then the area's other bytes
+pub digits-first : (bytes area : List ℕ) → 2 * length bytes ≤ length area → sets area 0 (digitsOf bytes) ≡ digitsOf bytes ++ drop (length (digitsOf bytes)) area
+digits-first bytes area h = at-start area (digitsOf bytes) (omega (arith, length-digits bytes))

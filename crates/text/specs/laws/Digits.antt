@@ -1,15 +1,14 @@
--- Laws of decimal and hexadecimal digits. Assumes nothing.
-use Prim.Native.Nat.{ℕ, zero, suc, _+_, _*_, _/_, _%_, _^_, _≤_, _<_}
+-- Laws of decimal digits. Assumes nothing.
+use Prim.Native.Nat.{ℕ, zero, suc, _+_, _/_, _%_, _^_, _≤_, _<_}
 use mathlib.Core.Path.{_≡_, refl, sym, ap, _∙_}
 use mathlib.Core.List.{List, [], _∷_, _++_}
 use native.Mathlib.Nat.{not-suc-le-zero, pow-suc}
 use native.Mathlib.Omega.{arith}
-use lib.ListN.{length, getD, take, length-append}
-use lib.Seq.{take-suc}
+use lib.ListN.{length, length-append}
 use lib.Dec.{ltb}
 use borrow.Author.Tests.{ltb-true, ltb-false}
 use Rattle.text.specs.laws.Settled.{settle}
-use Rattle.text.specs.Digits.{places, decimal, upper, hexadecimal}
+use Rattle.text.specs.Digits.{places, decimal}
 
 places-none : (k : ℕ) → places k 0 ≡ []
 unfolding places
@@ -64,21 +63,3 @@ decimal-short (suc k) n h =
     (λ e.
     rw (decimal-more (ltb-false n 10 e))
     (simp length-append (omega (arith, decimal-short k (n / 10) (omega (arith, pow-suc 10 (suc k)))))))
-
-pub length-hexadecimal : (bytes : List ℕ) → length (hexadecimal bytes) ≡ 2 * length bytes
-unfolding hexadecimal
-length-hexadecimal [] = refl
-length-hexadecimal (b ∷ bytes) = omega (arith, length-hexadecimal bytes)
-
-pub hexadecimal-append : (a b : List ℕ) → hexadecimal (a ++ b) ≡ hexadecimal a ++ hexadecimal b
-unfolding hexadecimal
-hexadecimal-append [] b = refl
-hexadecimal-append (x ∷ a) b = ap (λ (r : List ℕ). upper (x / 16) ∷ upper (x % 16) ∷ r) (hexadecimal-append a b)
-
--- one byte more, two digits more
-pub hexadecimal-more
-    : (bytes : List ℕ) (i : ℕ) →
-    i < length bytes →
-    hexadecimal (take (suc i) bytes) ≡ hexadecimal (take i bytes) ++ (upper (getD bytes i 0 / 16) ∷ upper (getD bytes i 0 % 16) ∷ [])
-unfolding hexadecimal
-hexadecimal-more bytes i h = ap hexadecimal (take-suc bytes i 0 h) ∙ hexadecimal-append (take i bytes) (getD bytes i 0 ∷ [])

@@ -4,6 +4,7 @@ use mathlib.Core.Path.{_≡_, refl}
 use mathlib.Core.List.{List, [], _∷_, _++_}
 use lib.ListN.{replicate}
 use Rattle.refusals.specs.declared.Fault.the-variants.{Length, Digit, Placement, Heat}
+use Rattle.hexadecimals.specs.Written.{upper, digitsOf}
 use Rattle.frame.specs.declared.Refusal.{Refusal}
 use Rattle.frame.specs.declared.Refusal.the-variants.{Faulty}
 use Rattle.frame.specs.declared.Verdict.the-variants.{Refused}
@@ -11,7 +12,7 @@ use Rattle.frame.specs.Refusals.{number}
 use Rattle.frame.specs.Verdicts.{lineVerdict}
 use Rattle.frame.specs.laws.Examples.{thirdLine, placementLine, examples}
 use Rattle.text.specs.Lines.{lf, ended, left, lastLine, linesOf}
-use Rattle.text.specs.Digits.{places, decimal, upper, hexadecimal}
+use Rattle.text.specs.Digits.{places, decimal}
 use Rattle.text.specs.Records.{said, Answers, Record, Text}
 use Rattle.text.specs.Records.Text.{none, one}
 
@@ -32,8 +33,8 @@ unfolding decimal places
 decimal-1234567890 = refl
 
 -- the bytes 0, 9F and AB
-hexadecimal-digits : hexadecimal (0 ∷ 159 ∷ 171 ∷ []) ≡ 48 ∷ 48 ∷ 57 ∷ 70 ∷ 65 ∷ 66 ∷ []
-unfolding hexadecimal upper
+hexadecimal-digits : digitsOf (0 ∷ 159 ∷ 171 ∷ []) ≡ 48 ∷ 48 ∷ 57 ∷ 70 ∷ 65 ∷ 66 ∷ []
+unfolding digitsOf upper
 hexadecimal-digits = refl
 
 no-lines : linesOf [] ≡ []
