@@ -1,5 +1,5 @@
 -- From a case to its speed range, energy and front speed (document 01, "From frame to speed range").
-use Prim.Native.Nat.{ℕ, zero, suc, _+_, _*_, _-_, _<_}
+use Prim.Native.Nat.{ℕ, suc, _*_, _<_}
 use mathlib.Core.Bool.{Bool, _&&_, cond}
 use native.Mathlib.Decide.{decLe}
 use native.Mathlib.Omega.{arith}
@@ -7,18 +7,15 @@ use lib.Dec.{eqb, ltb}
 use Rattle.exact.specs.Fraction.{Ratio, whole, _⊗_}
 use Rattle.guidance.specs.declared.Case.{Case}
 use Rattle.guidance.specs.Substances.{classOf, heatOf}
+use Rattle.guidance.specs.Ranges.{rangeAt}
 
 -- n/d, for a denominator that is written out
 abbrev pub over : (n d : ℕ) → 0 < d → Ratio
 over n d z = record { num = n; den = d; positive = z }
 
--- class + surroundings - 2, but at least 1
-unfoldable pub atLeast1 : ℕ → ℕ
-atLeast1 zero = 1
-atLeast1 (suc n) = suc n
-
+-- the printed range of the substance's class in its surroundings
 unfoldable pub rangeOf : Case → ℕ
-rangeOf c = atLeast1 (classOf (c .substance) + c .surroundings - 2)
+rangeOf c = rangeAt (classOf (c .substance)) (c .surroundings)
 
 abbrev pub heterogeneous : Case → Bool
 heterogeneous c = eqb (c .state) 1

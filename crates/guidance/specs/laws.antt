@@ -1,4 +1,5 @@
 -- The laws: nothing here need be believed.
+pub mod Ranges
 pub mod Limits
 pub mod Energies
 pub mod Order

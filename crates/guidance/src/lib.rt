@@ -11,6 +11,7 @@ ghost use Rattle.guidance.specs.Cases.{Fields};
 ghost use Rattle.guidance.specs.CloudWords.{Heated, CloudOf, Placed, Compared, joulesOf, weightOf, scaledBy, millionths};
 
 mod arithmetic;
+mod ranges;
 mod substances;
 
 // The air pressure of a frame of 22 bytes, Pa (001).
@@ -60,13 +61,13 @@ pub fn heat_of(c: Case) -> u64
     }
 }
 
-// class + surroundings - 2, but at least 1.
+// The printed range of the substance's class in its surroundings.
 fn range_of(c: Case) -> u64
     requires { ⌜ Fields c ⌝ }
     ensures { λ r. ⌜ r ≡ rangeOf c ⌝ }
 {
-    let sum = substances::class_of(c.substance) + c.surroundings;
-    if 2 < sum { sum - 2 } else { 1 }
+    let class = substances::class_of(c.substance);
+    ranges::range_at(class, c.surroundings)
 }
 
 // A heterogeneous cloud in ranges 2 to 6: E takes 3/4.

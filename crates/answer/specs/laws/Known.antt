@@ -9,7 +9,8 @@ use Rattle.exact.specs.Fraction.{Ratio, whole, _⊗_, power, _⊑_, ofRatio, _�
 use Rattle.exact.specs.Formula.{Formula}
 use Rattle.exact.specs.laws.Frac.{⊑-trans}
 use Rattle.guidance.specs.Substances.{betas, betaOf, classOf, heatOf}
-use Rattle.guidance.specs.Clouds.{atLeast1, rangeOf, groundFactor, leanBy, leanFactor, aerosolFactor, energy}
+use Rattle.guidance.specs.Ranges.{ranges, rangeAt}
+use Rattle.guidance.specs.Clouds.{rangeOf, groundFactor, leanBy, leanFactor, aerosolFactor, energy}
 use Rattle.guidance.specs.Distances.{less, metres, cubed, nearer, farther, cube02, cube24}
 use Rattle.guidance.specs.Waves.{standardAir, reducedPressure}
 use Rattle.guidance.specs.laws.Known.{FirstIs, point-holds, gas-near-field, heterogeneous-reduced, heterogeneous-pressure, range-of}
@@ -45,7 +46,7 @@ unfolding fieldsOf wholeZ ofRatio _⊠_
 reduced = between 1000 (point-holds heterogeneous-reduced) (record { cross = omega arith }) (record { cross = omega arith })
 
 pub known : KnownCases
-unfolding fieldsOf nearer farther less cubed metres cube02 cube24 power whole _⊗_ energy groundFactor leanFactor leanBy decLe aerosolFactor heatOf betas betaOf rangeOf classOf atLeast1 frameVerdict firstOf held frameTests fieldTests valueTests lastTests quantityOutside heatMissing
+unfolding fieldsOf nearer farther less cubed metres cube02 cube24 power whole _⊗_ energy groundFactor leanFactor leanBy decLe aerosolFactor heatOf betas betaOf rangeOf rangeAt ranges classOf frameVerdict firstOf held frameTests fieldTests valueTests lastTests quantityOutside heatMissing
 known =
     record {
       q-range = refl;

@@ -7,7 +7,8 @@ use lib.ListN.{replicate}
 use Rattle.exact.specs.Fraction.{whole, _⊗_, power}
 use Rattle.guidance.specs.declared.Case.{Case}
 use Rattle.guidance.specs.Substances.{betas, betaOf, classOf, heatOf}
-use Rattle.guidance.specs.Clouds.{atLeast1, rangeOf, groundFactor, leanBy, leanFactor, aerosolFactor, energy}
+use Rattle.guidance.specs.Ranges.{ranges, rangeAt}
+use Rattle.guidance.specs.Clouds.{rangeOf, groundFactor, leanBy, leanFactor, aerosolFactor, energy}
 use Rattle.guidance.specs.Distances.{less, metres, cubed, farther, cube24}
 use Rattle.refusals.specs.declared.Fault.the-variants.{Length, Digit, State, Placement, Surroundings, Quantity, Heat}
 use Rattle.frame.specs.declared.Refusal.the-variants.{Faulty}
@@ -87,7 +88,7 @@ pub record Examples : Type 0 where
   pub quantity-after : frameVerdict (settings 1 1 4) 77 ≡ Refused (Faulty Quantity)
 
 pub examples : Examples
-unfolding frameVerdict lineVerdict firstOf held frameTests lineTests fieldTests valueTests lastTests quantityOutside heatMissing fieldsOf digitOf allDigits bytesOf farther less cubed metres cube24 power whole _⊗_ energy groundFactor leanFactor leanBy decLe aerosolFactor heatOf betas betaOf rangeOf classOf atLeast1
+unfolding frameVerdict lineVerdict firstOf held frameTests lineTests fieldTests valueTests lastTests quantityOutside heatMissing fieldsOf digitOf allDigits bytesOf farther less cubed metres cube24 power whole _⊗_ energy groundFactor leanFactor leanBy decLe aerosolFactor heatOf betas betaOf rangeOf rangeAt ranges classOf
 examples =
     record {
       empty-line = refl;

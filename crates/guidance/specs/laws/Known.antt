@@ -1,5 +1,5 @@
 -- Pressures of document 01's case Q whose exact value is a fraction, by computation of a bracket; the range of a class in its surroundings. Assumes nothing.
-use Prim.Native.Nat.{ℕ, _+_, _-_}
+use Prim.Native.Nat.{ℕ}
 use mathlib.Core.Path.{_≡_, refl}
 use mathlib.Core.Bool.{Bool, true}
 use mathlib.Core.Logic.{Dec·and}
@@ -16,9 +16,10 @@ use Rattle.exact.specs.laws.Containment.{Inside, inside, inside-true, contains-
 use Rattle.exact.specs.laws.Decide.{decAbove0, decF, decPositive, decPositives}
 use Rattle.exact.specs.Holding.{Holds}
 use Rattle.guidance.specs.declared.Case.{Case}
-use Rattle.guidance.specs.Substances.{betas, betaOf, classOf, heatOf}
-use Rattle.guidance.specs.Clouds.{atLeast1, rangeOf, groundFactor, leanBy, leanFactor, aerosolFactor, energy}
-use Rattle.guidance.specs.Distances.{less, metres, cubed, nearer, farther, cube02, cube025, cube24}
+use Rattle.guidance.specs.Substances.{classOf, heatOf}
+use Rattle.guidance.specs.Ranges.{ranges, rangeAt}
+use Rattle.guidance.specs.Clouds.{rangeOf, groundFactor, leanBy, leanFactor, aerosolFactor, energy}
+use Rattle.guidance.specs.Distances.{less, metres, cubed, nearer, farther, cube02, cube025}
 use Rattle.guidance.specs.Waves.{standardAir, thousandths, tenths, reducedDistance, aerosolPressure, gasPressure, nearField, detonationPressure, reducedPressure, overpressure}
 
 -- case Q: unlisted, raised, surroundings 1, 100 g, c = s, 1013 J/g, 70 kg
@@ -68,7 +69,7 @@ record Pressures : Type 0 where
   heterogeneous : bracketIs (overpressure standardAir (q 1 100)) (tenths 288705) ≡ true
 
 pressures : Pressures
-unfolding bracketIs overpressure reducedPressure detonationPressure nearField reducedDistance aerosolPressure gasPressure nearer farther less cubed metres cube02 cube025 energy groundFactor leanFactor leanBy aerosolFactor heatOf rangeOf classOf atLeast1 inside bracketAt lift _>>_ quotientB lnB expB overPairs quotients smaller larger decF decPositive decPositives Dec·and decAbove0 decLe lnLowerAt lnUpperAt lnLower lnUpper ln2Lower ln2Upper exponent climb fraction argument third seriesLower seriesUpper lnTerm lnTail gap oneOver even expLowerAt expUpperAt expUpperOf oneOverOf expLower expUpper expTerm expTail factorial power sum recip whole _⊕_ _⊗_ _⊖_ ofRatio zeroF oneF magnitude _⊞_ neg _⊟_ _⊠_ inverse
+unfolding bracketIs overpressure reducedPressure detonationPressure nearField reducedDistance aerosolPressure gasPressure nearer farther less cubed metres cube02 cube025 energy groundFactor leanFactor leanBy aerosolFactor heatOf rangeOf rangeAt ranges classOf inside bracketAt lift _>>_ quotientB lnB expB overPairs quotients smaller larger decF decPositive decPositives Dec·and decAbove0 decLe lnLowerAt lnUpperAt lnLower lnUpper ln2Lower ln2Upper exponent climb fraction argument third seriesLower seriesUpper lnTerm lnTail gap oneOver even expLowerAt expUpperAt expUpperOf oneOverOf expLower expUpper expTerm expTail factorial power sum recip whole _⊕_ _⊗_ _⊖_ ofRatio zeroF oneF magnitude _⊞_ neg _⊟_ _⊠_ inverse
 pressures = record { gas = refl; reduced = refl; heterogeneous = refl }
 
 pub gas-near-field : FirstIs (overpressure standardAir (q 0 19)) (whole 1823400)
@@ -81,6 +82,6 @@ pub heterogeneous-pressure : FirstIs (overpressure standardAir (q 1 100)) (tenth
 heterogeneous-pressure = is-at-1 _ _ (pressures .heterogeneous)
 
 -- the range of every case of a class in some surroundings
-pub range-of : (c : Case) {class surroundings : ℕ} → classOf (c .substance) ≡ class → c .surroundings ≡ surroundings → rangeOf c ≡ atLeast1 (class + surroundings - 2)
+pub range-of : (c : Case) {class surroundings : ℕ} → classOf (c .substance) ≡ class → c .surroundings ≡ surroundings → rangeOf c ≡ rangeAt class surroundings
 unfolding rangeOf
 range-of c e f = rw (e, f) refl

@@ -10,9 +10,10 @@ use lib.ListN.{getD, List·getD-eq-default}
 use borrow.Author.Tests.{ne-eqb}
 use Rattle.guidance.specs.declared.Case.{Case}
 use Rattle.guidance.specs.Substances.{betas, betaOf, classOf, heatOf}
-use Rattle.guidance.specs.Clouds.{atLeast1, rangeOf}
+use Rattle.guidance.specs.Clouds.{rangeOf}
 use Rattle.guidance.specs.Cases.{Fields}
 use Rattle.guidance.specs.CloudWords.{joulesOf, partsOf}
+use Rattle.guidance.specs.laws.Ranges.{atLeast1, sixteen-places}
 use Rattle.exact.specs.laws.Tables.{both, at-entry}
 
 -- Choices
@@ -51,23 +52,6 @@ pub class-most : (s : ℕ) → classOf s ≤ 4
 unfolding classOf
 class-most s = cond-most (leb s 10) 1 _ (lit≤ tt) (cond-most (leb s 27) 2 _ (lit≤ tt) (cond-most (leb s 57) 3 4 (lit≤ tt) (lit≤ tt)))
 
--- the least value 1
-pub range-above : {n m : ℕ} → n ≡ m → 2 < n → n - 2 ≡ atLeast1 (m - 2)
-unfolding atLeast1
-range-above {n} {m} e h = go (m - 2) (omega arith)
-  where
-    go : (i : ℕ) → n - 2 ≡ i → n - 2 ≡ atLeast1 i
-    go zero e = absurd (omega arith)
-    go (suc i) e = e
-
-pub range-below : {n m : ℕ} → n ≡ m → n ≤ 2 → 1 ≡ atLeast1 (m - 2)
-unfolding atLeast1
-range-below {n} {m} e h = go (m - 2) (omega arith)
-  where
-    go : (i : ℕ) → i ≡ 0 → 1 ≡ atLeast1 i
-    go zero e = refl
-    go (suc i) e = absurd (omega arith)
-
 pub heat-given : (s given : ℕ) → 0 < given → given ≡ heatOf s given
 unfolding heatOf
 heat-given s zero h = absurd (omega arith)
@@ -88,20 +72,19 @@ heat-none s zero = go (betaOf s)
     go (suc b) = ne-eqb (440 * suc b) 0 (λ e. omega arith) ∙ sym (ne-eqb (suc b) 0 (λ e. omega arith))
 heat-none s (suc given) = rw (ne-eqb (suc given) 0 (λ e. omega arith)) refl
 
--- Energy
+-- Range and energy
 
 module _ (c : Case) (f : Fields c) where
-  pub range-least : 1 ≤ rangeOf c
-  unfolding rangeOf atLeast1
-  range-least = go (classOf (c .substance) + c .surroundings - 2)
-    where
-      go : (m : ℕ) → 1 ≤ atLeast1 m
-      go zero = omega arith
-      go (suc m) = omega arith
+  -- the range is what document 01's formula gives
+  pub range-by-formula : rangeOf c ≡ atLeast1 (classOf (c .substance) + c .surroundings - 2)
+  unfolding rangeOf
+  range-by-formula =
+      sixteen-places (classOf (c .substance)) (c .surroundings) (class-least (c .substance)) (class-most (c .substance))
+      (f .surroundings) (f .surroundings-most)
 
   pub range-most : rangeOf c ≤ 6
-  unfolding rangeOf atLeast1
-  range-most = go (classOf (c .substance) + c .surroundings - 2) (omega (arith, class-most (c .substance), f .surroundings-most))
+  unfolding atLeast1
+  range-most = rw range-by-formula (go (classOf (c .substance) + c .surroundings - 2) (omega (arith, class-most (c .substance), f .surroundings-most)))
     where
       go : (m : ℕ) → m ≤ 6 → atLeast1 m ≤ 6
       go zero h = omega arith

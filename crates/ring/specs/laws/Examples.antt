@@ -6,7 +6,8 @@ use native.Mathlib.Decide.{decLe}
 use native.Mathlib.Omega.{arith}
 use Rattle.exact.specs.Fraction.{whole, _⊗_, power}
 use Rattle.guidance.specs.Substances.{betas, betaOf, classOf, heatOf}
-use Rattle.guidance.specs.Clouds.{atLeast1, rangeOf, groundFactor, leanBy, leanFactor, aerosolFactor, energy}
+use Rattle.guidance.specs.Ranges.{ranges, rangeAt}
+use Rattle.guidance.specs.Clouds.{rangeOf, groundFactor, leanBy, leanFactor, aerosolFactor, energy}
 use Rattle.guidance.specs.Distances.{less, metres, cubed, farther, cube24}
 use Rattle.guidance.specs.Waves.{standardAir}
 use Rattle.refusals.specs.declared.Fault.the-variants.{Surroundings}
@@ -33,11 +34,11 @@ pub record Examples : Type 0 where
   pub q-farthest : farthest standardAir (fieldsOf (q 0 2401)) ≡ 2400
 
 within : farther cube24 standardAir (moved (fieldsOf (q 0 2401)) 2400) ≡ false
-unfolding fieldsOf moved farther less cubed metres cube24 power whole _⊗_ energy groundFactor leanFactor leanBy decLe aerosolFactor heatOf betas betaOf rangeOf classOf atLeast1
+unfolding fieldsOf moved farther less cubed metres cube24 power whole _⊗_ energy groundFactor leanFactor leanBy decLe aerosolFactor heatOf betas betaOf rangeOf rangeAt ranges classOf
 within = refl
 
 beyond : farther cube24 standardAir (moved (fieldsOf (q 0 2401)) 2401) ≡ true
-unfolding fieldsOf moved farther less cubed metres cube24 power whole _⊗_ energy groundFactor leanFactor leanBy decLe aerosolFactor heatOf betas betaOf rangeOf classOf atLeast1
+unfolding fieldsOf moved farther less cubed metres cube24 power whole _⊗_ energy groundFactor leanFactor leanBy decLe aerosolFactor heatOf betas betaOf rangeOf rangeAt ranges classOf
 beyond = refl
 
 pub examples : Examples
