@@ -32,6 +32,13 @@ for cls, column in enumerate((CLASS1, CLASS2, CLASS3, CLASS4), start=1):
     for beta in column:
         SUBSTANCES[len(SUBSTANCES)] = (cls, beta)
 
+# 003, Table 2: the speed range by class and surroundings, each from 1; document 01 gives it by a formula.
+RANGES = ((1, 1, 2, 3),
+          (1, 2, 3, 4),
+          (2, 3, 4, 5),
+          (3, 4, 5, 6))
+assert all(RANGES[i - 1][j - 1] == max(1, i + j - 2) for i in range(1, 5) for j in range(1, 5))
+
 # 003, Table 3: probability in tenths of a percent against the probit in hundredths.
 PROBITS = """267 295 312 325 338 345 352 359 366 372 377 382 386 392 396 401 405 408 412 416 419 423 426 429 433 436
 439 442 445 448 450 453 456 459 461 464 467 469 472 475 477 480 482 485 487 490 492 495 497 500 503 505 508 510 513 515
@@ -109,7 +116,7 @@ def cloud(case):
     """The speed range and the energy in joules of a case that has a heat."""
     substance, state, placement, around, mass, c, s, heat, _, _ = case
     cls, beta = SUBSTANCES[substance]
-    speed = max(1, cls + around - 2)
+    speed = RANGES[cls - 1][around - 1]
     energy = Fraction(mass * (heat if heat else 440 * beta))
     if placement == 1:
         energy *= 2

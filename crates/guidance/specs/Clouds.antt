@@ -1,4 +1,4 @@
--- From a case to its speed range, energy and front speed (document 01, "From frame to speed range").
+-- From a case to its speed range and energy (document 01, "From frame to speed range").
 use Prim.Native.Nat.{ℕ, suc, _*_, _<_}
 use mathlib.Core.Bool.{Bool, _&&_, cond}
 use native.Mathlib.Decide.{decLe}
