@@ -175,11 +175,15 @@ def reduced(case, speed, energy, cube):
     return px, ix, branch
 
 
+def in_units(px, ix, energy):
+    """Overpressure in Pa and impulse in Pa s."""
+    return px * P0, ix * mp.cbrt(mpf(P0)**2) * mp.cbrt(real(energy)) / C0
+
+
 def values(case, speed, energy, cube):
     """Overpressure, impulse and the five probits, and the name of the branch."""
     px, ix, branch = reduced(case, speed, energy, cube)
-    p = px * P0
-    i = ix * mp.cbrt(mpf(P0)**2) * mp.cbrt(real(energy)) / C0
+    p, i = in_units(px, ix, energy)
     probits = (
         5 - mpf('0.26') * mp.log((17500 / p)**mpf('8.4') + (290 / i)**mpf('9.3')),
         5 - mpf('0.22') * mp.log((40000 / p)**mpf('7.4') + (460 / i)**mpf('11.3')),

@@ -1,5 +1,5 @@
-/* Calls Yakepuhi from C: a case as a line and as a frame's bytes, its overpressure and its impulse alone, its rings,
-   its line in the old form, what every refusal is called, each printed in readable form. */
+/* Calls Yakepuhi from C: a case as a line and as a frame's bytes, its overpressure and its impulse alone, its rules,
+   its rings, its line in the old form, what every refusal is called, each printed in readable form. */
 #include "yakepuhi.h"
 
 #include <inttypes.h>
@@ -65,6 +65,28 @@ static void ask_frame(const char *title, const uint8_t *frame, size_t length)
     memset(area, MARK, sizeof area);
     uint64_t refusal = yakepuhi_from_frame(frame, length, area, sizeof area);
     show(title, refusal, area);
+}
+
+static const char *const rules[5] = {
+    [YAKEPUHI_UNDECIDED] = "undecided", [YAKEPUHI_NEAR_FIELD] = "near-field value", [YAKEPUHI_DETONATION] = "detonation formula",
+    [YAKEPUHI_DEFLAGRATION] = "deflagration formula", [YAKEPUHI_DEFLAGRATION_034] = "deflagration formula at 0.34",
+};
+
+/* The rules of a case in other surroundings and at another distance; a refusal leaves both numbers as they were. */
+static void ask_rules(const uint8_t *frame, uint8_t surroundings, uint32_t metres)
+{
+    uint8_t moved[YAKEPUHI_FRAME];
+    uint64_t pressure = MARK, impulse = MARK;
+    memcpy(moved, frame, sizeof moved);
+    moved[3] = surroundings;
+    for (int i = 0; i < 4; i++)
+        moved[16 + i] = (uint8_t)(100 * metres >> (24 - 8 * i));
+    uint64_t refusal = yakepuhi_rules(moved, sizeof moved, &pressure, &impulse);
+    printf("its rules in surroundings %u, %" PRIu32 " m away: %s\n", surroundings, metres, words[refusal]);
+    if (refusal == 0)
+        printf("  overpressure  %s\n  impulse       %s\n", rules[pressure], rules[impulse]);
+    else
+        printf("  %d numbers kept\n", (pressure == MARK) + (impulse == MARK));
 }
 
 /* The ring of a threshold, from the line and from the bytes; a refusal leaves both distances as they were. */
@@ -134,6 +156,13 @@ int main(void)
     printf("its overpressure alone: %s\n  %" PRIu64 " to %" PRIu64 " Pa\n", words[refusal], lower, upper);
     refusal = yakepuhi_impulse(frame, sizeof frame, &lower, &upper);
     printf("its impulse alone: %s\n  %" PRIu64 " to %" PRIu64 " Pa s\n", words[refusal], lower, upper);
+    ask_rules(frame, 1, 30);
+    ask_rules(frame, 1, 100);
+    ask_rules(frame, 2, 50);
+    ask_rules(frame, 4, 50);
+    ask_rules(frame, 4, 100);
+    ask_rules(frame, 4, 500);
+    ask_rules(frame, 4, 10000);
     ask_ring(line, frame, 28000);
     ask_ring(line, frame, 5000);
     ask_ring(line, frame, 1000);

@@ -1,5 +1,5 @@
-{ Calls Yakepuhi from Free Pascal: a case as a line and as a frame's bytes, its overpressure and its impulse alone, its rings,
-  its line in the old form, what every refusal is called, each printed in readable form. }
+{ Calls Yakepuhi from Free Pascal: a case as a line and as a frame's bytes, its overpressure and its impulse alone, its rules,
+  its rings, its line in the old form, what every refusal is called, each printed in readable form. }
 program example;
 
 {$mode objfpc}{$H+}
@@ -14,6 +14,8 @@ const
   { by number; none is numbered 4 }
   Words: array[0..16] of string = ('accepted', 'length', 'digit', 'substance', '', 'quantity', 'heat', 'beyond', 'space', 'threshold', 'weak', 'strong',
     'state', 'placement', 'surroundings', 'tag', 'double');
+  { by number }
+  Rules: array[0..4] of string = ('undecided', 'near-field value', 'detonation formula', 'deflagration formula', 'deflagration formula at 0.34');
   { 8 t of propane on the ground, 100 m away }
   Line = '11000104007A1200057803020000B540000027100046';
   Frame: array[0..21] of Byte = ($11, 0, 1, 4, 0, $7A, $12, 0, 5, $78, 3, 2, 0, 0, $B5, $40, 0, 0, $27, $10, 0, $46);
@@ -38,6 +40,7 @@ function yakepuhi_from_line(line: PByte; lineLength: SizeUInt; area: PByte; area
 function yakepuhi_from_frame(frame: PByte; frameLength: SizeUInt; area: PByte; areaLength: SizeUInt): QWord; cdecl; external;
 function yakepuhi_overpressure(frame: PByte; frameLength: SizeUInt; lower, upper: PQWord): QWord; cdecl; external;
 function yakepuhi_impulse(frame: PByte; frameLength: SizeUInt; lower, upper: PQWord): QWord; cdecl; external;
+function yakepuhi_rules(frame: PByte; frameLength: SizeUInt; pressure, impulse: PQWord): QWord; cdecl; external;
 function yakepuhi_ring_from_frame(frame: PByte; frameLength: SizeUInt; threshold: QWord; inner, outer: PQWord): QWord; cdecl; external;
 function yakepuhi_ring_from_line(line: PByte; lineLength: SizeUInt; threshold: QWord; inner, outer: PQWord): QWord; cdecl; external;
 function yakepuhi_frame_from_old(line: PByte; lineLength: SizeUInt; area: PByte; areaLength: SizeUInt): QWord; cdecl; external;
@@ -127,6 +130,30 @@ begin
   Show(title, refusal, area);
 end;
 
+{ The rules of a case in other surroundings and at another distance; a refusal leaves both numbers as they were. }
+procedure AskRules(bytes: PByte; count: SizeUInt; surroundings: Byte; metres: LongWord);
+var
+  moved: array[0..21] of Byte;
+  pressure, impulse, refusal: QWord;
+  i: Integer;
+begin
+  pressure := Mark;
+  impulse := Mark;
+  Move(bytes^, moved, SizeOf(moved));
+  moved[3] := surroundings;
+  for i := 0 to 3 do
+    moved[16 + i] := Byte(100 * metres shr (24 - 8 * i));
+  refusal := yakepuhi_rules(@moved[0], count, @pressure, @impulse);
+  WriteLn('its rules in surroundings ', surroundings, ', ', metres, ' m away: ', Words[refusal]);
+  if refusal = 0 then
+  begin
+    WriteLn('  overpressure  ', Rules[pressure]);
+    WriteLn('  impulse       ', Rules[impulse]);
+  end
+  else
+    WriteLn('  ', Ord(pressure = Mark) + Ord(impulse = Mark), ' numbers kept');
+end;
+
 { The ring of a threshold, from the line and from the bytes; a refusal leaves both distances as they were. }
 procedure AskRing(const text: string; bytes: PByte; count: SizeUInt; threshold: QWord);
 var
@@ -199,6 +226,13 @@ begin
   refusal := yakepuhi_impulse(@Frame[0], SizeOf(Frame), @lower, @upper);
   WriteLn('its impulse alone: ', Words[refusal]);
   WriteLn('  ', lower, ' to ', upper, ' Pa s');
+  AskRules(@Frame[0], SizeOf(Frame), 1, 30);
+  AskRules(@Frame[0], SizeOf(Frame), 1, 100);
+  AskRules(@Frame[0], SizeOf(Frame), 2, 50);
+  AskRules(@Frame[0], SizeOf(Frame), 4, 50);
+  AskRules(@Frame[0], SizeOf(Frame), 4, 100);
+  AskRules(@Frame[0], SizeOf(Frame), 4, 500);
+  AskRules(@Frame[0], SizeOf(Frame), 4, 10000);
   AskRing(Line, @Frame[0], SizeOf(Frame), 28000);
   AskRing(Line, @Frame[0], SizeOf(Frame), 5000);
   AskRing(Line, @Frame[0], SizeOf(Frame), 1000);

@@ -6,8 +6,8 @@
 
    Every function gives 0 for an accepted case, else the number of the first refusal that applies, in this order:
    1 length, 2 digit, for an old line 15 tag, 16 double, then 3 substance, 12 state, 13 placement, 14 surroundings, 5 quantity, 6 heat;
-   then for an answer 7 beyond, 8 space, for a ring 9 threshold, 10 weak, 11 strong, for the old form 8 space. 4, which stood for all of
-   12 to 14, is retired: no function gives it.
+   then for an answer and its rules 7 beyond, 8 space, for a ring 9 threshold, 10 weak, 11 strong, for the old form 8 space. 4, which stood
+   for all of 12 to 14, is retired: no function gives it.
    After a refusal everything that was lent for writing has the bytes that it had.
 
    They use no heap, no file and no global state, so any number of threads can call them at once. */
@@ -43,6 +43,22 @@ uint64_t yakepuhi_overpressure(const uint8_t *frame, size_t frame_length, uint64
 
 /* The same for the impulse alone, in whole Pa s. */
 uint64_t yakepuhi_impulse(const uint8_t *frame, size_t frame_length, uint64_t *lower, uint64_t *upper);
+
+/* The numbers of the rules that give a figure. */
+#define YAKEPUHI_UNDECIDED 0
+#define YAKEPUHI_NEAR_FIELD 1
+#define YAKEPUHI_DETONATION 2
+#define YAKEPUHI_DEFLAGRATION 3
+#define YAKEPUHI_DEFLAGRATION_034 4
+
+/* The rules of a case given as the bytes of a frame: accepted, it sets *pressure to the number of the rule that gave the overpressure and
+   *impulse to that of the rule that gave the impulse.
+   Range 1 has the near-field value where Rx is below 0.2 (gas) or 0.25 (heterogeneous), else the detonation formula. In ranges 2 to 6 one of
+   these two, told apart in the same way, stands against the deflagration formula, which is taken at 0.34 where Rx is below 0.34. The named one
+   is the smaller, in Pa or in Pa s: for no N does its bracket lie wholly above the other's. Undecided is said in these ranges alone, and only
+   if two whole numbers that hold the one figure and two that hold the other, each pair within the width rule, overlap. Where both a name and
+   undecided fit, the answer is open. It never gives 2 or 8. */
+uint64_t yakepuhi_rules(const uint8_t *frame, size_t frame_length, uint64_t *pressure, uint64_t *impulse);
 
 /* The greatest threshold of a ring, Pa. */
 #define YAKEPUHI_THRESHOLD 1823400

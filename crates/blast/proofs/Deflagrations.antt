@@ -1,10 +1,9 @@
 -- The deflagration figures, and the smaller of two. Assumes nothing.
-use Prim.Native.Nat.{ℕ, _≤_, _<_}
+use Prim.Native.Nat.{ℕ, _≤_}
 use mathlib.Core.Path.{_≡_, sym, subst, subst⁻¹, ap, _∙_}
 use mathlib.Core.Bool.{true, false, cond}
 use native.Mathlib.Omega.{arith}
 use native.Mathlib.Nat.{le-refl}
-use borrow.Author.Tests.{lt-ltb, le-ltb}
 use Rattle.exact.specs.Fraction.{ofRatio}
 use Rattle.exact.specs.Formula.{Formula, least}
 use Rattle.span.specs.declared.Span.{Span}
@@ -13,7 +12,7 @@ use Rattle.span.specs.Enclosing.{Encloses, smaller-encloses, wider}
 use Rattle.enclosure.specs.Promises.{enough}
 use Rattle.guidance.specs.declared.Case.{Case}
 use Rattle.guidance.specs.declared.Cloud.{Cloud}
-use Rattle.guidance.specs.Clouds.{rangeOf, deflagrates}
+use Rattle.guidance.specs.Clouds.{deflagrates}
 use Rattle.guidance.specs.Distances.{nearer, cube034}
 use Rattle.guidance.specs.Waves.{hundredths, thousandths, frontSpeed, machNumber, expansion, deflagrationDistance, deflagrationPressure, deflagrationImpulse}
 use Rattle.guidance.specs.Cases.{Fields}
@@ -140,15 +139,6 @@ smaller-enclosure {v = v} d o h k s =
       least = omega (arith, s .exponent, h .least, k .least, o);
       most = omega (arith, s .exponent, k .most);
     }
-
--- Range 1 detonates, ranges 2 to 6 deflagrate
-
-module _ {c : Case} {k : Cloud} (h : CloudOf c k) where
-  pub detonates : k .range < 2 → deflagrates c ≡ false
-  detonates l = le-ltb 1 (rangeOf c) (omega (arith, h .range, l))
-
-  pub burns : 2 ≤ k .range → deflagrates c ≡ true
-  burns l = lt-ltb 1 (rangeOf c) (omega (arith, h .range, l))
 
 -- One law for Px and Ix: where the case detonates, its detonation figure d alone; where it deflagrates, the smaller of f and d
 

@@ -5,3 +5,4 @@ pub mod Choices
 pub mod Detonations
 pub mod Deflagrations
 pub mod Finals
+pub mod OneRule

@@ -9,8 +9,6 @@ use Rattle.span.specs.Spans.{unit}
 use Rattle.span.specs.Enclosing.{wider}
 use Rattle.span.specs.Wholes.{wholes-hold, wholes-finer}
 use Rattle.enclosure.specs.Promises.{enough}
-use Rattle.guidance.specs.declared.Case.{Case}
-use Rattle.guidance.specs.Waves.{overpressure, impulse}
 use Rattle.layout.specs.declared.Ends.{Ends}
 use Rattle.waves.specs.EndBounds.{LowerAtMost, value-most-of}
 use Rattle.blast.specs.Windows.{Window}
@@ -33,15 +31,15 @@ module _ {x : Formula} {w : Window} {n : ℕ} {s : Span} {e : Ends} (top : ℕ) 
             omega (arith, b, j);
       }
 
-module _ {air : ℕ} {c : Case} {s : Span} where
-  pub pressure-roundable : PressureSpan air c s → Roundable s
+module _ {x : Formula} {s : Span} where
+  pub pressure-roundable : PressureSpan x s → Roundable s
   pressure-roundable p = record { normal = p .value .normal; most = omega (arith, p .value .most) }
 
-  pub impulse-roundable : ImpulseSpan air c s → Roundable s
+  pub impulse-roundable : ImpulseSpan x s → Roundable s
   impulse-roundable p = record { normal = p .value .normal; most = omega (arith, p .value .most) }
 
-  pub pressure-ended : {e : Ends} → PressureSpan air c s → Rounded s e → Ended (overpressure air c) (2 ^ 24) e
+  pub pressure-ended : {e : Ends} → PressureSpan x s → Rounded s e → Ended x (2 ^ 24) e
   pressure-ended p f = ended (2 ^ 24) (p .value) f (omega arith) (p .lower) 14200000 (omega arith) (omega arith)
 
-  pub impulse-ended : {e : Ends} → ImpulseSpan air c s → Rounded s e → Ended (impulse air c) (2 ^ 24) e
+  pub impulse-ended : {e : Ends} → ImpulseSpan x s → Rounded s e → Ended x (2 ^ 24) e
   impulse-ended p f = ended (2 ^ 24) (p .value) f (omega arith) (p .lower) 15000000 (omega arith) (omega arith)

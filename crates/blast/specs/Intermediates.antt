@@ -19,15 +19,16 @@ use Rattle.guidance.specs.declared.Case.{Case}
 use Rattle.guidance.specs.declared.Cloud.{Cloud}
 use Rattle.guidance.specs.Clouds.{energy, deflagrates}
 use Rattle.guidance.specs.CloudWords.{CloudOf}
-use Rattle.guidance.specs.Waves.{number, hundredths, thousandths, gasImpulse, raised, third, twoThirds, reducedDistance, nearField, machNumber, deflagrationDistance}
+use Rattle.guidance.specs.Waves.{number, hundredths, thousandths, gasImpulse, raised, third, twoThirds, reducedDistance, nearField, machNumber, deflagrationDistance, inPascals, inPascalSeconds}
 use Rattle.blast.specs.declared.Detonation.{Detonation}
 use Rattle.blast.specs.declared.Detonation.the-variants as variants
 use Rattle.blast.specs.declared.Flame.{Flame}
 use Rattle.blast.specs.declared.Deflagration.{Deflagration}
 use Rattle.blast.specs.declared.Deflagration.the-variants as burning
 use Rattle.blast.specs.declared.Common.{Common}
-use Rattle.blast.specs.Windows.{energyWindow, airPowerWindow, distanceWindow}
-use Rattle.blast.specs.Promises.{Enclosure, Ready}
+use Rattle.blast.specs.declared.Scale.{Scale}
+use Rattle.blast.specs.Windows.{Window, energyWindow, airPowerWindow, energyRootWindow, distanceWindow, reducedPressureWindow, reducedImpulseWindow}
+use Rattle.blast.specs.Promises.{Enclosure, Ready, PressureSpan, ImpulseSpan}
 
 -- words that a cloud may have
 pub record Worded (k : Cloud) : Type 0 where
@@ -124,3 +125,27 @@ pub record CommonOf (air : ℕ) (c : Case) (s : Common) : Type 0 where
 -- Ix of the near field, by the state: 0.16, or that of a gas at 0.142
 unfoldable pub nearImpulse : ℕ → Formula
 nearImpulse state = cond (eqb state 1) (number (hundredths 16)) (gasImpulse (number (thousandths 142)))
+
+-- From reduced figures to Pa and Pa·s
+
+-- E^(1/3), from 0.023 to 67,200
+pub record EnergyRoot (c : Case) (t : Span) : Type 0 where
+  pub root : Enclosure (raised third (number (energy c))) energyRootWindow t
+  pub lower : LowerAtMost t 67200 1
+
+pub record ScaleOf (air : ℕ) (c : Case) (s : Scale) : Type 0 where
+  pub power : AirPower air (s .power)
+  pub root : EnergyRoot c (s .root)
+
+-- s encloses some value, in the window w
+pub record Some (w : Window) (s : Span) : Type 0 where
+  pub value : Formula
+  pub enclosed : Enclosure value w s
+
+-- whatever Px is in px, Px·P0 is in s; whatever Ix is in ix, Ix·P0^(2/3)·E^(1/3)/C0 is in s
+
+pub record Pascals (air : ℕ) (px s : Span) : Type 0 where
+  pub value : (x : Formula) → Enclosure x reducedPressureWindow px → PressureSpan (inPascals air x) s
+
+pub record PascalSeconds (air : ℕ) (c : Case) (ix s : Span) : Type 0 where
+  pub value : (x : Formula) → Enclosure x reducedImpulseWindow ix → ImpulseSpan (inPascalSeconds air c x) s

@@ -13,9 +13,10 @@ use Rattle.waves.specs.EndBounds.{LowerAtMost}
 use Rattle.guidance.specs.declared.Case.{Case}
 use Rattle.guidance.specs.declared.Cloud.{Cloud}
 use Rattle.guidance.specs.CloudWords.{CloudOf}
-use Rattle.guidance.specs.Waves.{overpressure, impulse}
+use Rattle.guidance.specs.Waves.{deflagrationPressure, deflagrationImpulse, detonationPressure, detonationImpulse, inPascals, inPascalSeconds, overpressure, impulse}
 use Rattle.guidance.specs.Cases.{Air, Accepted}
 use Rattle.blast.specs.declared.Wave.{Wave}
+use Rattle.blast.specs.declared.Figures.{Figures}
 use Rattle.blast.specs.Windows.{Window, pressureWindow, impulseWindow}
 use Rattle.layout.specs.declared.Ends.{Ends}
 
@@ -33,19 +34,35 @@ pub record Ready (c : Case) (k : Cloud) (air : ℕ) : Type 0 where
   pub cloud : CloudOf c k
   pub pressure : Air air
 
--- ΔP, up to 14,080,000 Pa
-pub record PressureSpan (air : ℕ) (c : Case) (s : Span) : Type 0 where
-  pub value : Enclosure (overpressure air c) pressureWindow s
+-- an overpressure, up to 14,080,000 Pa, and an impulse, up to 14,610,071 Pa·s
+
+pub record PressureSpan (x : Formula) (s : Span) : Type 0 where
+  pub value : Enclosure x pressureWindow s
   pub lower : LowerAtMost s 14080000 1
 
--- I, up to 14,610,071 Pa·s
-pub record ImpulseSpan (air : ℕ) (c : Case) (s : Span) : Type 0 where
-  pub value : Enclosure (impulse air c) impulseWindow s
+pub record ImpulseSpan (x : Formula) (s : Span) : Type 0 where
+  pub value : Enclosure x impulseWindow s
   pub lower : LowerAtMost s 14610071 1
 
-pub record WaveOf (air : ℕ) (c : Case) (w : Wave) : Type 0 where
-  pub pressure : PressureSpan air c (w .pressure)
-  pub impulse : ImpulseSpan air c (w .impulse)
+pub record Waves (pascals pascalSeconds : Formula) (w : Wave) : Type 0 where
+  pub pressure : PressureSpan pascals (w .pressure)
+  pub impulse : ImpulseSpan pascalSeconds (w .impulse)
+
+-- ΔP and I
+abbrev pub WaveOf : (air : ℕ) → Case → Wave → Type 0
+WaveOf air c w = Waves (overpressure air c) (impulse air c) w
+
+-- ΔP and I by either rule, before the smaller is taken (request 5)
+
+abbrev pub DeflagrationWave : (air : ℕ) → Case → Wave → Type 0
+DeflagrationWave air c w = Waves (inPascals air (deflagrationPressure air c)) (inPascalSeconds air c (deflagrationImpulse air c)) w
+
+abbrev pub DetonationWave : (air : ℕ) → Case → Wave → Type 0
+DetonationWave air c w = Waves (inPascals air (detonationPressure air c)) (inPascalSeconds air c (detonationImpulse air c)) w
+
+pub record FiguresOf (air : ℕ) (c : Case) (f : Figures) : Type 0 where
+  pub deflagration : DeflagrationWave air c (f .deflagration)
+  pub detonation : DetonationWave air c (f .detonation)
 
 -- whole numbers around the value of x, close together and below `top`
 pub record Ended (x : Formula) (top : ℕ) (e : Ends) : Type 0 where

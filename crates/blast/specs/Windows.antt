@@ -15,6 +15,10 @@ energyWindow = record { width = 11; least = 977; most = 1060 }
 abbrev pub airPowerWindow : Window
 airPowerWindow = record { width = 45; least = 1003; most = 1006 }
 
+-- E^(1/3): from 2^-7 to 2^26
+abbrev pub energyRootWindow : Window
+energyRootWindow = record { width = 41; least = 987; most = 1019 }
+
 -- Rx: from 2^-33 to 2^43
 abbrev pub distanceWindow : Window
 distanceWindow = record { width = 55; least = 961; most = 1036 }

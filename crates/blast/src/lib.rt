@@ -4,8 +4,8 @@ ghost use Prim.Native.Nat.{_^_, _<_};
 ghost use Rattle.guidance.specs.Cases.{Air, Accepted};
 ghost use Rattle.guidance.specs.Waves.{reducedDistance, detonationPressure, detonationImpulse, reducedPressure, reducedImpulse, overpressure, impulse};
 ghost use Rattle.blast.specs.Windows.{distanceWindow, detonationPressureWindow, detonationImpulseWindow, reducedPressureWindow, reducedImpulseWindow};
-ghost use Rattle.blast.specs.Promises.{Enclosure, Ready, PressureSpan, ImpulseSpan, WaveOf, Ended, Roundable, Rounded};
-ghost use Rattle.blast.specs.Intermediates.{Seen, Detonated, FlameOf, Deflagrated, CommonOf, Worded, EnergySpan, Rootable, CubeRoot, AirPower, MachSpan, DeflagrationSpan, nearImpulse};
+ghost use Rattle.blast.specs.Promises.{Enclosure, Ready, WaveOf, FiguresOf, DeflagrationWave, DetonationWave, Ended, Roundable, Rounded};
+ghost use Rattle.blast.specs.Intermediates.{Seen, Detonated, FlameOf, Deflagrated, CommonOf, Worded, EnergySpan, Rootable, CubeRoot, AirPower, MachSpan, DeflagrationSpan, nearImpulse, ScaleOf, Some, Pascals, PascalSeconds};
 use fixed::Log;
 use guidance::Case;
 use guidance::Cloud;
@@ -16,6 +16,12 @@ use span::Span;
 pub struct Wave {
     pub pressure: Span,
     pub impulse: Span,
+}
+
+// ΔP and I by deflagration and by detonation (request 5).
+pub struct Figures {
+    pub deflagration: Wave,
+    pub detonation: Wave,
 }
 
 // 3/4.
@@ -130,6 +136,12 @@ enum Deflagration {
 struct Common {
     detonation: Detonation,
     deflagration: Deflagration,
+}
+
+// What Ix is multiplied by: P0^(2/3) and E^(1/3).
+struct Scale {
+    power: Span,
+    root: Span,
 }
 
 // The near field and the state choose the formula; ln Rx serves both figures of a gas.
@@ -278,25 +290,33 @@ fn reduced_impulse(c: Case, air: u64, s: Common) -> Span
     }
 }
 
-// ΔP = Px·P0.
-fn pascals(c: Case, k: Cloud, air: u64, px: Span) -> Span
-    requires { ⌜ (Ready c k air) × (Enclosure (reducedPressure air c) reducedPressureWindow px) ⌝ }
-    ensures { λ s. ⌜ PressureSpan air c s ⌝ }
+// Px in Pa: Px·P0.
+fn pascals(air: u64, px: Span) -> Span
+    requires { ⌜ (Air air) × (Some reducedPressureWindow px) ⌝ }
+    ensures { λ s. ⌜ Pascals air px s ⌝ }
 {
     let p = span::whole(air);
     span::mul(px, p)
 }
 
-// I = Ix·P0^(2/3)·E^(1/3)/C0.
-fn pascal_seconds(c: Case, k: Cloud, air: u64, ix: Span) -> Span
-    requires { ⌜ (Ready c k air) × (Enclosure (reducedImpulse air c) reducedImpulseWindow ix) ⌝ }
-    ensures { λ s. ⌜ ImpulseSpan air c s ⌝ }
+// P0^(2/3) and E^(1/3).
+fn scale_of(c: Case, k: Cloud, air: u64) -> Scale
+    requires { ⌜ Ready c k air ⌝ }
+    ensures { λ s. ⌜ ScaleOf air c s ⌝ }
 {
     let power = air_power(air);
-    let share = span::mul(ix, power);
     let joules = energy(k);
     let root = cube_root(joules);
-    let all = span::mul(share, root);
+    Scale { power, root }
+}
+
+// Ix in Pa·s: Ix·P0^(2/3)·E^(1/3)/C0.
+fn pascal_seconds(c: Case, air: u64, s: Scale, ix: Span) -> Span
+    requires { ⌜ (ScaleOf air c s) × (Some reducedImpulseWindow ix) ⌝ }
+    ensures { λ r. ⌜ PascalSeconds air c ix r ⌝ }
+{
+    let share = span::mul(ix, s.power);
+    let all = span::mul(share, s.root);
     span::quo(all, waves::coefficients::SOUND)
 }
 
@@ -305,12 +325,54 @@ pub fn wave_of(c: Case, k: Cloud, air: u64) -> Wave
     requires { ⌜ Ready c k air ⌝ }
     ensures { λ w. ⌜ WaveOf air c w ⌝ }
 {
-    let s = common_of(c, k, air);
-    let px = reduced_pressure(c, air, s);
-    let pressure = pascals(c, k, air, px);
-    let ix = reduced_impulse(c, air, s);
-    let impulse = pascal_seconds(c, k, air, ix);
+    let m = common_of(c, k, air);
+    let px = reduced_pressure(c, air, m);
+    let pressure = pascals(air, px);
+    let ix = reduced_impulse(c, air, m);
+    let s = scale_of(c, k, air);
+    let impulse = pascal_seconds(c, air, s, ix);
     Wave { pressure, impulse }
+}
+
+// ΔP and I by deflagration.
+fn deflagration_wave(c: Case, air: u64, s: Scale, f: Flame) -> Wave
+    requires { ⌜ (Air air) × (ScaleOf air c s) × (FlameOf air c f) ⌝ }
+    ensures { λ w. ⌜ DeflagrationWave air c w ⌝ }
+{
+    let px = waves::deflagration_pressure(f.mach, f.expansion, f.distance);
+    let pressure = pascals(air, px);
+    let ix = waves::deflagration_impulse(f.mach, f.expansion, f.distance);
+    let impulse = pascal_seconds(c, air, s, ix);
+    Wave { pressure, impulse }
+}
+
+// ΔP and I by detonation.
+fn detonation_wave(c: Case, air: u64, s: Scale, d: Detonation) -> Wave
+    requires { ⌜ (Air air) × (ScaleOf air c s) × (Detonated air c d) ⌝ }
+    ensures { λ w. ⌜ DetonationWave air c w ⌝ }
+{
+    let px = detonation_pressure(c, air, d);
+    let pressure = pascals(air, px);
+    let ix = detonation_impulse(c, air, d);
+    let impulse = pascal_seconds(c, air, s, ix);
+    Wave { pressure, impulse }
+}
+
+// ΔP and I by either rule, before the smaller is taken.
+pub fn figures_of(c: Case, k: Cloud, air: u64) -> Figures
+    requires { ⌜ Ready c k air ⌝ }
+    ensures { λ f. ⌜ FiguresOf air c f ⌝ }
+{
+    let x = reduced_distance(c, k, air);
+    let s = scale_of(c, k, air);
+    let f = flame_of(c, k, air, x);
+    let deflagration = deflagration_wave(c, air, s, f);
+    let d = detonation_of(c, k, air, x);
+    let detonation = detonation_wave(c, air, s, d);
+    Figures {
+        deflagration,
+        detonation,
+    }
 }
 
 // The whole numbers around a span.
@@ -329,9 +391,9 @@ pub fn pressure(c: Case, air: u64) -> Ends
     ensures { λ e. ⌜ Ended (overpressure air c) (2 ^ 24) e ⌝ }
 {
     let k = guidance::cloud_of(c);
-    let s = common_of(c, k, air);
-    let px = reduced_pressure(c, air, s);
-    let p = pascals(c, k, air, px);
+    let m = common_of(c, k, air);
+    let px = reduced_pressure(c, air, m);
+    let p = pascals(air, px);
     ends(p)
 }
 
@@ -341,8 +403,9 @@ pub fn impulse(c: Case, air: u64) -> Ends
     ensures { λ e. ⌜ Ended (impulse air c) (2 ^ 24) e ⌝ }
 {
     let k = guidance::cloud_of(c);
-    let s = common_of(c, k, air);
-    let ix = reduced_impulse(c, air, s);
-    let i = pascal_seconds(c, k, air, ix);
+    let m = common_of(c, k, air);
+    let ix = reduced_impulse(c, air, m);
+    let s = scale_of(c, k, air);
+    let i = pascal_seconds(c, air, s, ix);
     ends(i)
 }

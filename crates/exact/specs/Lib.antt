@@ -4,5 +4,6 @@ pub mod Series
 pub mod LnExp
 pub mod Formula
 pub mod Exact
+pub mod Smaller
 pub mod Holding
 pub mod laws

@@ -16,6 +16,7 @@ pub mod EndsMeet
 pub mod Meeting
 pub mod Containment
 pub mod Inclusion
+pub mod Smaller
 pub mod Nesting
 pub mod Lipschitz
 pub mod Octaves
@@ -30,6 +31,7 @@ pub mod LogBelow
 pub mod LogAbove
 pub mod Power
 pub mod Points
+pub mod Scaling
 pub mod PowerEnds
 pub mod Quotient
 pub mod Replacing

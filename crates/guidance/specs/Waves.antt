@@ -145,10 +145,18 @@ reducedPressure air c = cond (deflagrates c) (least (deflagrationPressure air c)
 unfoldable pub reducedImpulse : (air : ℕ) → Case → Formula
 reducedImpulse air c = cond (deflagrates c) (least (deflagrationImpulse air c) (detonationImpulse air c)) (detonationImpulse air c)
 
--- ΔP = Px·P0 in Pa; I = Ix·P0^(2/3)·E^(1/3)/C0 in Pa·s
+-- Px in Pa: Px·P0; Ix in Pa·s: Ix·P0^(2/3)·E^(1/3)/C0
+
+unfoldable pub inPascals : (air : ℕ) → Formula → Formula
+inPascals air px = mul px (number (whole air))
+
+unfoldable pub inPascalSeconds : (air : ℕ) → Case → Formula → Formula
+inPascalSeconds air c ix = div (mul (mul ix (raised twoThirds (number (whole air)))) (raised third (number (energy c)))) sound
+
+-- ΔP and I
 
 unfoldable pub overpressure : (air : ℕ) → Case → Formula
-overpressure air c = mul (reducedPressure air c) (number (whole air))
+overpressure air c = inPascals air (reducedPressure air c)
 
 unfoldable pub impulse : (air : ℕ) → Case → Formula
-impulse air c = div (mul (mul (reducedImpulse air c) (raised twoThirds (number (whole air)))) (raised third (number (energy c)))) sound
+impulse air c = inPascalSeconds air c (reducedImpulse air c)

@@ -5,4 +5,5 @@ pub mod Energies
 pub mod Order
 pub mod Comparisons
 pub mod Domain
+pub mod Units
 pub mod Known

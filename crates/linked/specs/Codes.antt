@@ -24,3 +24,9 @@ Given x (Refused r) lower upper lower-after upper-after = (lower-after ≡ lower
 pub record FigureAnswered (x : Case → Formula) (frame : List ℕ) (lower upper n lower-after upper-after : ℕ) : Type 0 where
   pub returned : n ≡ code (frameVerdict frame answerLength)
   pub ends : Given x (frameVerdict frame answerLength) lower upper lower-after upper-after
+
+-- what comes back, and what two lent numbers hold then
+pub record Left (returned first second n first-after second-after : ℕ) : Type 0 where
+  pub number : n ≡ returned
+  pub first-is : first-after ≡ first
+  pub second-is : second-after ≡ second

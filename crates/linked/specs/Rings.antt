@@ -1,15 +1,9 @@
 -- What the ring's entries for C promise: an answer that fits, as one number and two distances (request 1).
 use Prim.Native.Nat.{ℕ}
-use mathlib.Core.Path.{_≡_}
 use Rattle.ring.specs.declared.Answer.{Answer}
 use Rattle.ring.specs.declared.Answer.the-variants.{Ring, Refused}
 use Rattle.ring.specs.Refusals as refusals
-
--- what comes back, and what the two lent numbers hold then
-pub record Left (returned inner outer n inner-after outer-after : ℕ) : Type 0 where
-  pub number : n ≡ returned
-  pub inner-is : inner-after ≡ inner
-  pub outer-is : outer-after ≡ outer
+use Rattle.linked.specs.Codes.{Left}
 
 -- 0 and a ring's distances, or a refusal's number and both numbers as they were
 abbrev pub Given : (a : Answer) (inner outer n inner-after outer-after : ℕ) → Type 0

@@ -26,6 +26,9 @@ word Surroundings = 115 ∷ 117 ∷ 114 ∷ 114 ∷ 111 ∷ 117 ∷ 110 ∷ 100 
 word Quantity = 113 ∷ 117 ∷ 97 ∷ 110 ∷ 116 ∷ 105 ∷ 116 ∷ 121 ∷ []
 word Heat = 104 ∷ 101 ∷ 97 ∷ 116 ∷ []
 
--- a word filled with zeros to 12 bytes
+-- a word filled with zeros to n bytes, and to 12
+abbrev pub filledTo : ℕ → List ℕ → List ℕ
+filledTo n w = w ++ replicate (n - length w) 0
+
 abbrev pub filled : List ℕ → List ℕ
-filled w = w ++ replicate (12 - length w) 0
+filled w = filledTo 12 w

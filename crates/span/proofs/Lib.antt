@@ -4,3 +4,4 @@ pub mod Widths
 pub mod Operations
 pub mod Differences
 pub mod Comparisons
+pub mod Below

@@ -1,17 +1,22 @@
 -- For the callers: what an operation promises of the points is lifted to the N-th brackets of formulas, one lemma for each
 -- operation, and widths compose. A proof about a formula is then a term of the formula's shape. Assumes nothing.
 use mathlib.Core.Option.{some}
-use Prim.Native.Nat.{ℕ, _^_, _≤_, _<_}
-use native.Mathlib.Nat.{mul-le-mul-right}
+use Prim.Native.Nat.{ℕ, _*_, _^_, _≤_, _<_}
+use mathlib.Core.Path.{_≡_}
+use mathlib.Core.Bool.{true}
+use native.Mathlib.Nat.{mul-le-mul-right, mul-lt-mul-of-pos-right}
 use native.Mathlib.Omega.{arith}
+use borrow.Author.Tests.{ltb-true}
 use Rattle.exact.specs.Fraction.{Frac}
 use Rattle.exact.specs.Formula.{Formula, const, add, sub, mul, div, least, bracketAt}
 use Rattle.exact.specs.laws.Meeting.{meeting}
 use Rattle.exact.specs.laws.Containment.{Inside, contains-holds}
 use Rattle.exact.specs.laws.Inclusion.{binary-inside, binary-quotient, const-inside}
 use Rattle.exact.specs.Holding.{Holds}
+use Rattle.exact.specs.Smaller.{IsSmaller}
+use Rattle.exact.specs.laws.Smaller.{smaller-inside}
 use Rattle.span.specs.declared.Span.{Span}
-use Rattle.span.specs.Spans.{hull, wholeF, fraction, Normal, Rel, Width, Whole, FractionOf, Constant, Product, Quotient, Sum, Difference, Smaller}
+use Rattle.span.specs.Spans.{unit, unit-positive, units, hull, wholeF, fraction, Normal, Rel, Width, Whole, FractionOf, Constant, Product, Quotient, Sum, Difference, Smaller, below}
 
 -- the span a contains the n-th bracket of x
 pub record Encloses (a : Span) (x : Formula) (n : ℕ) : Type 0 where
@@ -46,6 +51,14 @@ pub quotient-encloses : {a b r : Span} {x y : Formula} {n : ℕ} → Quotient a 
 unfolding bracketAt
 quotient-encloses {x = x} {y = y} {n = n} q h k =
     record { inside = binary-quotient (bracketAt x n) (bracketAt y n) (meeting x n n) (meeting y n n) (h .inside) (k .inside) (q .divisor) (q .holds) }
+
+-- two spans apart: of what they enclose the one is the smaller
+pub below-smaller : {a b : Span} {x y : Formula} {n : ℕ} → 1 ≤ n → below a b ≡ true → Encloses a x n → Encloses b y n → IsSmaller x y
+unfolding below hull units
+below-smaller {a} {b} {x} {y} {n} o l h k =
+    let less = ltb-true (a .hi * 2 ^ a .e) (b .lo * 2 ^ b .e) l in
+    let more = mul-lt-mul-of-pos-right {k = unit} less unit-positive in
+    smaller-inside x y n o (hull a) (hull b) (h .inside) (k .inside) (record { less = λ m. absurd (omega (arith, more, m .cross)) })
 
 -- at the end: a span that contains one bracket holds the exact value
 pub encloses-holds : {a : Span} {x : Formula} {n : ℕ} → 1 ≤ n → Encloses a x n → Holds (hull a) x

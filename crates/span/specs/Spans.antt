@@ -3,6 +3,8 @@
 -- no span of that exponent is narrower; elsewhere the ends are open but for the width. Assumes nothing.
 use Prim.Native.Nat.{ℕ, _+_, _*_, _-_, _^_, _≤_, _<_}
 use mathlib.Core.Path.{_≡_}
+use mathlib.Core.Bool.{Bool}
+use lib.Dec.{ltb}
 use lib.Pow.{pow-pos}
 use native.Mathlib.Omega.{arith}
 use Rattle.exact.specs.Fraction.{Frac, Positive, _⊞_, _⊟_, _⊠_, inverse}
@@ -152,6 +154,11 @@ pub record Smaller (a b r : Span) : Type 0 where
   pub holds : (p q : Frac) → p ∈ hull a → q ∈ hull b → smaller p q ∈ hull r
   pub width : (D : ℕ) → Width a D → Width b D → Width r D
   pub exponent : r .e ≡ a .e - (a .e - b .e)
+
+-- Comparison: a lies wholly below b
+
+unfoldable pub below : (a b : Span) → Bool
+below a b = ltb (a .hi * 2 ^ a .e) (b .lo * 2 ^ b .e)
 
 -- The whole numbers around a span: the greatest that is not above the lower end, and the least that is not below the upper end
 

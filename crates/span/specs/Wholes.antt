@@ -1,7 +1,10 @@
 -- For the callers: whole numbers as the last ends. They hold what the span holds, and a narrow span makes them close. Assumes nothing.
 use Prim.Native.Nat.{ℕ, _+_, _*_, _-_, _^_, _≤_, _<_}
+use mathlib.Core.Path.{_≡_}
+use mathlib.Core.Bool.{false}
 use native.Mathlib.Nat.{mul-pos, mul-le-mul-right, le-of-mul-le-mul-right, lt-of-mul-lt-mul-right}
 use native.Mathlib.Omega.{arith}
+use borrow.Author.Tests.{ltb-false}
 use lib.Pow.{pow-pos}
 use Rattle.exact.specs.Bracket.{Bracket}
 use Rattle.exact.specs.laws.Pairs.{_⊆_}
@@ -9,7 +12,7 @@ use Rattle.exact.specs.Formula.{Formula, bracketAt}
 use Rattle.exact.specs.laws.Containment.{contains-holds, inside-wider}
 use Rattle.exact.specs.Holding.{Holds}
 use Rattle.span.specs.declared.Span.{Span}
-use Rattle.span.specs.Spans.{unit, unit-positive, units, hull, wholeF, Normal, Width, Floor, Ceiling}
+use Rattle.span.specs.Spans.{unit, unit-positive, units, hull, wholeF, Normal, Width, Floor, Ceiling, below}
 use Rattle.span.specs.Enclosing.{Encloses}
 
 abbrev pub wholes : ℕ → ℕ → Bracket
@@ -21,6 +24,11 @@ around f c = record { above = record { cross = omega (arith, f .below) }; below 
 
 pub wholes-hold : {a : Span} {l u : ℕ} {x : Formula} {n : ℕ} → 1 ≤ n → Floor a l → Ceiling a u → Encloses a x n → Holds (wholes l u) x
 wholes-hold {x = x} {n = n} o f c h = contains-holds x n o _ (inside-wider (bracketAt x n) (around f c) (h .inside))
+
+-- the whole numbers around two spans overlap where neither span lies wholly below the other
+pub wholes-overlap : {a b : Span} {l u : ℕ} → below a b ≡ false → Ceiling a u → Floor b l → l ≤ u
+unfolding below
+wholes-overlap {a} {b} n c f = le-of-mul-le-mul-right {k = unit} (omega (arith, f .below, ltb-false (a .hi * 2 ^ a .e) (b .lo * 2 ^ b .e) n, c .above)) unit-positive
 
 -- at most 2 and a hundred-thousandth of the lower end apart
 pub record Finer (lower upper : ℕ) : Type 0 where

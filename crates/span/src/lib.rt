@@ -2,7 +2,7 @@
 // All operations are exact u64 arithmetic followed by `cut`, the one place that rounds.
 ghost use mathlib.Core.Path.{_≡_};
 ghost use Prim.Native.Nat.{_+_, _*_, _-_, _^_, _≤_, _<_};
-ghost use Rattle.span.specs.Spans.{Normal, Whole, FractionOf, Factors, Product, Divisible, Quotient, Summands, Sum, Floor, Ceiling, Subtractable, Difference, Smaller};
+ghost use Rattle.span.specs.Spans.{Normal, Whole, FractionOf, Factors, Product, Divisible, Quotient, Summands, Sum, Floor, Ceiling, Subtractable, Difference, Smaller, below};
 ghost use Rattle.span.specs.Rounding.{Cuttable, Roundable, Rounded, Aligned, ShiftedDown, ShiftedUp, Ratio, Compared};
 
 // The numbers from lo·2^e / 2^1024 to hi·2^e / 2^1024.
@@ -206,4 +206,16 @@ pub fn lesser(a: Span, b: Span) -> Span
     } else {
         lesser_aligned(a, b)
     }
+}
+
+// Whether a lies wholly below b. Where a has the greater exponent its upper end, of 31 bits, is not below b's lower end.
+pub fn is_below(a: Span, b: Span) -> bool
+    requires { ⌜ (Normal a) × (Normal b) ⌝ }
+    ensures { λ r. ⌜ r ≡ below a b ⌝ }
+{
+    if b.e < a.e {
+        return false;
+    }
+    let d = b.e - a.e;
+    shr_down(a.hi, d) < b.lo
 }

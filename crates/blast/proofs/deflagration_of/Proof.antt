@@ -1,6 +1,6 @@
 -- `blast::deflagration_of` meets its contract. Assumes nothing.
 use borrow.Author.Needs.{needs}
-use Rattle.blast.proofs.Deflagrations.{detonates, burns}
+use Rattle.guidance.specs.laws.Limits.{detonates, burns}
 use Rattle.blast.proofs.deflagration_of.Statement.{statement}
 use Rattle.blast.proofs.deflagration_of.Tie as tie
 

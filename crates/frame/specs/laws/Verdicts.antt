@@ -126,7 +126,12 @@ pub frame-no-digit : (frame : List ℕ) (room : ℕ) → frameVerdict frame room
 unfolding frameVerdict frameTests fieldTests valueTests lastTests held
 frame-no-digit frame room h = not-refused (Faulty Digit) _ (fieldsOf frame) refl h
 
--- with room for an answer no line has refusal 8
+-- with room for an answer there is no refusal 8
+
+pub frame-no-space : (frame : List ℕ) (room : ℕ) → answerLength ≤ room → frameVerdict frame room ≡ Refused Space → ⊥
+unfolding frameVerdict frameTests fieldTests valueTests lastTests held
+frame-no-space frame room enough h = not-refused Space _ (fieldsOf frame) (simp (le-ltb room answerLength enough)) h
+
 pub line-no-space : (line : List ℕ) (room : ℕ) → answerLength ≤ room → lineVerdict line room ≡ Refused Space → ⊥
 unfolding lineVerdict lineTests fieldTests valueTests lastTests held
 line-no-space line room enough h = not-refused Space _ (fieldsOf (bytesOf line)) (simp (le-ltb room answerLength enough)) h

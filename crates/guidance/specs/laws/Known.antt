@@ -20,7 +20,7 @@ use Rattle.guidance.specs.Substances.{classOf, heatOf}
 use Rattle.guidance.specs.Ranges.{ranges, rangeAt}
 use Rattle.guidance.specs.Clouds.{rangeOf, groundFactor, leanBy, leanFactor, aerosolFactor, energy}
 use Rattle.guidance.specs.Distances.{less, metres, cubed, nearer, farther, cube02, cube025}
-use Rattle.guidance.specs.Waves.{standardAir, thousandths, tenths, reducedDistance, aerosolPressure, gasPressure, nearField, detonationPressure, reducedPressure, overpressure}
+use Rattle.guidance.specs.Waves.{standardAir, thousandths, tenths, reducedDistance, aerosolPressure, gasPressure, nearField, detonationPressure, reducedPressure, inPascals, overpressure}
 
 -- case Q: unlisted, raised, surroundings 1, 100 g, c = s, 1013 J/g, 70 kg
 abbrev pub q : (state distance : ℕ) → Case
@@ -69,7 +69,7 @@ record Pressures : Type 0 where
   heterogeneous : bracketIs (overpressure standardAir (q 1 100)) (tenths 288705) ≡ true
 
 pressures : Pressures
-unfolding bracketIs overpressure reducedPressure detonationPressure nearField reducedDistance aerosolPressure gasPressure nearer farther less cubed metres cube02 cube025 energy groundFactor leanFactor leanBy aerosolFactor heatOf rangeOf rangeAt ranges classOf inside bracketAt lift _>>_ quotientB lnB expB overPairs quotients smaller larger decF decPositive decPositives Dec·and decAbove0 decLe lnLowerAt lnUpperAt lnLower lnUpper ln2Lower ln2Upper exponent climb fraction argument third seriesLower seriesUpper lnTerm lnTail gap oneOver even expLowerAt expUpperAt expUpperOf oneOverOf expLower expUpper expTerm expTail factorial power sum recip whole _⊕_ _⊗_ _⊖_ ofRatio zeroF oneF magnitude _⊞_ neg _⊟_ _⊠_ inverse
+unfolding bracketIs overpressure inPascals reducedPressure detonationPressure nearField reducedDistance aerosolPressure gasPressure nearer farther less cubed metres cube02 cube025 energy groundFactor leanFactor leanBy aerosolFactor heatOf rangeOf rangeAt ranges classOf inside bracketAt lift _>>_ quotientB lnB expB overPairs quotients smaller larger decF decPositive decPositives Dec·and decAbove0 decLe lnLowerAt lnUpperAt lnLower lnUpper ln2Lower ln2Upper exponent climb fraction argument third seriesLower seriesUpper lnTerm lnTail gap oneOver even expLowerAt expUpperAt expUpperOf oneOverOf expLower expUpper expTerm expTail factorial power sum recip whole _⊕_ _⊗_ _⊖_ ofRatio zeroF oneF magnitude _⊞_ neg _⊟_ _⊠_ inverse
 pressures = record { gas = refl; reduced = refl; heterogeneous = refl }
 
 pub gas-near-field : FirstIs (overpressure standardAir (q 0 19)) (whole 1823400)

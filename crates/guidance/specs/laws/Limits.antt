@@ -7,12 +7,13 @@ use native.Mathlib.Decide.{decLe}
 use native.Mathlib.Omega.{arith}
 use lib.Dec.{leb, eqb, ltb, leb→le, lit≤}
 use lib.ListN.{getD, List·getD-eq-default}
-use borrow.Author.Tests.{ne-eqb}
+use borrow.Author.Tests.{ne-eqb, lt-ltb, le-ltb}
 use Rattle.guidance.specs.declared.Case.{Case}
 use Rattle.guidance.specs.Substances.{betas, betaOf, classOf, heatOf}
-use Rattle.guidance.specs.Clouds.{rangeOf}
+use Rattle.guidance.specs.declared.Cloud.{Cloud}
+use Rattle.guidance.specs.Clouds.{rangeOf, deflagrates}
 use Rattle.guidance.specs.Cases.{Fields}
-use Rattle.guidance.specs.CloudWords.{joulesOf, partsOf}
+use Rattle.guidance.specs.CloudWords.{joulesOf, partsOf, CloudOf}
 use Rattle.guidance.specs.laws.Ranges.{atLeast1, sixteen-places}
 use Rattle.exact.specs.laws.Tables.{both, at-entry}
 
@@ -123,3 +124,12 @@ module _ (c : Case) (f : Fields c) where
   pub parts-most : partsOf c ≤ 50000
   unfolding partsOf
   parts-most = cond-most (ltb (c .stoichiometric) (c .mean)) (c .mean) 1 (f .mean-most) (lit≤ tt)
+
+-- Range 1 detonates, ranges 2 to 6 deflagrate
+
+module _ {c : Case} {k : Cloud} (h : CloudOf c k) where
+  pub detonates : k .range < 2 → deflagrates c ≡ false
+  detonates l = le-ltb 1 (rangeOf c) (omega (arith, h .range, l))
+
+  pub burns : 2 ≤ k .range → deflagrates c ≡ true
+  burns l = lt-ltb 1 (rangeOf c) (omega (arith, h .range, l))

@@ -12,6 +12,8 @@ use Rattle.frame.specs.Refusals.{code}
 use Rattle.frame.specs.Verdicts.{answerLength, frameVerdict}
 use Rattle.ring.specs.declared.Answer as answers
 use Rattle.ring.specs.declared.Answer.the-variants as rings
+use Rattle.rules.specs.declared.Answer as rules
+use Rattle.rules.specs.declared.Answer.the-variants as reason
 use Rattle.writable.specs.declared.Verdict as verdicts
 use Rattle.writable.specs.declared.Verdict.the-variants as written
 use Rattle.writable.specs.Refusals as writings
@@ -23,6 +25,7 @@ use Rattle.to_old.specs.Tests as old-tests
 use Rattle.linked.specs.Codes.{Entered, FigureAnswered}
 use Rattle.linked.specs.Rings.{Given, Answered}
 use Rattle.linked.specs.OldLines.{CameIn, WentBack}
+use Rattle.linked.specs.Reasons as reasons
 use Rattle.numbering.specs.Entries.Refused.{answer, ring, writing, oldLine}
 use Rattle.numbering.specs.laws.Retired.{retired}
 
@@ -45,6 +48,14 @@ given-not-4 (rings.Refused r) inner outer n i o g h = retired (ring r) (sym (g .
 
 pub ring-not-4 : {Fits : answers.Answer → Type 0} {inner outer n i o : ℕ} → Answered Fits inner outer n i o → n ≡ 4 → ⊥
 ring-not-4 a h = given-not-4 (a .answer) _ _ _ _ _ (a .given) h
+
+-- the rules
+reason-not-4 : (a : rules.Answer) (pressure impulse n p i : ℕ) → reasons.Given a pressure impulse n p i → n ≡ 4 → ⊥
+reason-not-4 (reason.Named r) pressure impulse n p i g h = let z = sym (g .number) ∙ h in omega arith
+reason-not-4 (reason.Refused q) pressure impulse n p i g h = retired (answer q) (sym (g .number) ∙ h)
+
+pub rules-not-4 : {frame : List ℕ} {pressure impulse n p i : ℕ} → reasons.Reasoned frame pressure impulse n p i → n ≡ 4 → ⊥
+rules-not-4 a h = reason-not-4 (a .answer) _ _ _ _ _ (a .given) h
 
 -- an old line, in and back
 pub came-in-not-4 : {line before after : List ℕ} {n : ℕ} → CameIn line before n after → n ≡ 4 → ⊥

@@ -14,10 +14,10 @@ number-of-requires : tie.Need-number-of-requires
 number-of-requires c κs = search needs
 
 returns : tie.Need-returns
-returns c = rw (c .before .a .given .1) (record { number = refl; inner-is = refl; outer-is = refl })
+returns c = rw (c .before .a .given .1) (record { number = refl; first-is = refl; second-is = refl })
 
 returns-2 : tie.Need-returns-2
-returns-2 c = rw (c .before .before .a2 .given .1) (record { number = c .number-of .ensures; inner-is = refl; outer-is = refl })
+returns-2 c = rw (c .before .before .a2 .given .1) (record { number = c .number-of .ensures; first-is = refl; second-is = refl })
 
 pub give-spec : {M : Type 1} → statement M
 give-spec = tie.close (tie.spec enum-known-a enum-known-a-2 number-of-requires returns returns-2)
