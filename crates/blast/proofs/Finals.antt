@@ -17,13 +17,13 @@ use Rattle.waves.specs.EndBounds.{LowerAtMost, UpperAtLeast, lower-coarser, nor
 use Rattle.blast.specs.declared.Scale.{Scale}
 use Rattle.blast.specs.Windows.{reducedPressureWindow, reducedImpulseWindow, impulseWindow}
 use Rattle.blast.specs.Promises.{Enclosure, Ready, PressureSpan, ImpulseSpan}
-use Rattle.blast.specs.Intermediates.{EnergySpan, Rootable, CubeRoot, EnergyRoot, ScaleOf, Some, Pascals, PascalSeconds}
+use Rattle.blast.specs.Intermediates.{EnergySpan, Rootable, CubeRoot, EnergyRoot, ScaleOf, EnclosesSome, Pascals, PascalSeconds}
 use Rattle.blast.specs.PowerBounds.{root-between}
 use Rattle.blast.proofs.Reduced.{air-encloses}
 
 -- Px·P0
 
-module _ {air : ℕ} {x p : Span} (a : Air air) (r : Some reducedPressureWindow x) (w : Whole air p) where
+module _ {air : ℕ} {x p : Span} (a : Air air) (r : EnclosesSome reducedPressureWindow x) (w : Whole air p) where
   air-least : 1009 ≤ p .e
   air-least = w .least 15 (omega (arith, a .least))
 
@@ -89,7 +89,7 @@ module _ {c : Case} {k : Cloud} {air : ℕ} {e : Span} (h : Ready c k air) (en :
 
 -- Ix·P0^(2/3)·E^(1/3)/C0
 
-module _ {air : ℕ} {c : Case} {k : Scale} {i : Span} (h : ScaleOf air c k) (r : Some reducedImpulseWindow i) where
+module _ {air : ℕ} {c : Case} {k : Scale} {i : Span} (h : ScaleOf air c k) (r : EnclosesSome reducedImpulseWindow i) where
   pub share-factors : Factors i (k .power)
   share-factors =
       let e = r .enclosed in

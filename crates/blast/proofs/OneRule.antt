@@ -9,11 +9,11 @@ use Rattle.waves.specs.Deflagration.{DeflagrationPressure, DeflagrationImpulse}
 use Rattle.blast.specs.declared.Flame.{Flame}
 use Rattle.blast.specs.Windows.{Window, detonationPressureWindow, detonationImpulseWindow, reducedPressureWindow, reducedImpulseWindow}
 use Rattle.blast.specs.Promises.{Enclosure}
-use Rattle.blast.specs.Intermediates.{FlameOf, Some}
+use Rattle.blast.specs.Intermediates.{FlameOf, EnclosesSome}
 use Rattle.blast.proofs.Choices.{looser}
 use Rattle.blast.proofs.Deflagrations.{deflagration-pressure, deflagration-impulse}
 
-pub some : {x : Formula} {w : Window} {s : Span} → Enclosure x w s → Some w s
+pub some : {x : Formula} {w : Window} {s : Span} → Enclosure x w s → EnclosesSome w s
 some {x} e = record { value = x; enclosed = e }
 
 -- by deflagration

@@ -138,7 +138,7 @@ pub record ScaleOf (air : ℕ) (c : Case) (s : Scale) : Type 0 where
   pub root : EnergyRoot c (s .root)
 
 -- s encloses some value, in the window w
-pub record Some (w : Window) (s : Span) : Type 0 where
+pub record EnclosesSome (w : Window) (s : Span) : Type 0 where
   pub value : Formula
   pub enclosed : Enclosure value w s
 

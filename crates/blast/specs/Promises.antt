@@ -44,21 +44,21 @@ pub record ImpulseSpan (x : Formula) (s : Span) : Type 0 where
   pub value : Enclosure x impulseWindow s
   pub lower : LowerAtMost s 14610071 1
 
-pub record Waves (pascals pascalSeconds : Formula) (w : Wave) : Type 0 where
+pub record WaveAround (pascals pascalSeconds : Formula) (w : Wave) : Type 0 where
   pub pressure : PressureSpan pascals (w .pressure)
   pub impulse : ImpulseSpan pascalSeconds (w .impulse)
 
 -- ΔP and I
 abbrev pub WaveOf : (air : ℕ) → Case → Wave → Type 0
-WaveOf air c w = Waves (overpressure air c) (impulse air c) w
+WaveOf air c w = WaveAround (overpressure air c) (impulse air c) w
 
 -- ΔP and I by either rule, before the smaller is taken (request 5)
 
 abbrev pub DeflagrationWave : (air : ℕ) → Case → Wave → Type 0
-DeflagrationWave air c w = Waves (inPascals air (deflagrationPressure air c)) (inPascalSeconds air c (deflagrationImpulse air c)) w
+DeflagrationWave air c w = WaveAround (inPascals air (deflagrationPressure air c)) (inPascalSeconds air c (deflagrationImpulse air c)) w
 
 abbrev pub DetonationWave : (air : ℕ) → Case → Wave → Type 0
-DetonationWave air c w = Waves (inPascals air (detonationPressure air c)) (inPascalSeconds air c (detonationImpulse air c)) w
+DetonationWave air c w = WaveAround (inPascals air (detonationPressure air c)) (inPascalSeconds air c (detonationImpulse air c)) w
 
 pub record FiguresOf (air : ℕ) (c : Case) (f : Figures) : Type 0 where
   pub deflagration : DeflagrationWave air c (f .deflagration)

@@ -5,7 +5,7 @@ ghost use Rattle.guidance.specs.Cases.{Air, Accepted};
 ghost use Rattle.guidance.specs.Waves.{reducedDistance, detonationPressure, detonationImpulse, reducedPressure, reducedImpulse, overpressure, impulse};
 ghost use Rattle.blast.specs.Windows.{distanceWindow, detonationPressureWindow, detonationImpulseWindow, reducedPressureWindow, reducedImpulseWindow};
 ghost use Rattle.blast.specs.Promises.{Enclosure, Ready, WaveOf, FiguresOf, DeflagrationWave, DetonationWave, Ended, Roundable, Rounded};
-ghost use Rattle.blast.specs.Intermediates.{Seen, Detonated, FlameOf, Deflagrated, CommonOf, Worded, EnergySpan, Rootable, CubeRoot, AirPower, MachSpan, DeflagrationSpan, nearImpulse, ScaleOf, Some, Pascals, PascalSeconds};
+ghost use Rattle.blast.specs.Intermediates.{Seen, Detonated, FlameOf, Deflagrated, CommonOf, Worded, EnergySpan, Rootable, CubeRoot, AirPower, MachSpan, DeflagrationSpan, nearImpulse, ScaleOf, EnclosesSome, Pascals, PascalSeconds};
 use fixed::Log;
 use guidance::Case;
 use guidance::Cloud;
@@ -292,7 +292,7 @@ fn reduced_impulse(c: Case, air: u64, s: Common) -> Span
 
 // Px in Pa: Px·P0.
 fn pascals(air: u64, px: Span) -> Span
-    requires { ⌜ (Air air) × (Some reducedPressureWindow px) ⌝ }
+    requires { ⌜ (Air air) × (EnclosesSome reducedPressureWindow px) ⌝ }
     ensures { λ s. ⌜ Pascals air px s ⌝ }
 {
     let p = span::whole(air);
@@ -312,7 +312,7 @@ fn scale_of(c: Case, k: Cloud, air: u64) -> Scale
 
 // Ix in Pa·s: Ix·P0^(2/3)·E^(1/3)/C0.
 fn pascal_seconds(c: Case, air: u64, s: Scale, ix: Span) -> Span
-    requires { ⌜ (ScaleOf air c s) × (Some reducedImpulseWindow ix) ⌝ }
+    requires { ⌜ (ScaleOf air c s) × (EnclosesSome reducedImpulseWindow ix) ⌝ }
     ensures { λ r. ⌜ PascalSeconds air c ix r ⌝ }
 {
     let share = span::mul(ix, s.power);

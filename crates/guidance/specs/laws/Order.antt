@@ -1,25 +1,14 @@
 -- The test `less` of fractions and the order of fractions. Assumes nothing.
-use Prim.Native.Nat.{ℕ, _*_, _≤_, _<_}
-use mathlib.Core.Path.{_≡_, sym, _∙_}
+use Prim.Native.Nat.{ℕ, _*_, _≤_}
+use mathlib.Core.Path.{_≡_}
 use mathlib.Core.Bool.{true, false}
-use native.Mathlib.Decide.{decLe}
 use native.Mathlib.Omega.{arith}
 use lib.Dec.{ltb}
-use borrow.Author.Tests.{lt-ltb, le-ltb, ltb-true, ltb-false}
+use borrow.Author.Tests.{le-ltb, ltb-true, ltb-false}
 use Rattle.exact.specs.Fraction.{Ratio, _≼_, _≈_}
+use Rattle.exact.specs.laws.Tests.{ltb-same}
 use Rattle.exact.specs.laws.Ratio.{≼-trans, to≼, from≼}
 use Rattle.guidance.specs.Distances.{less}
-
-pub ltb-same : {a b m n : ℕ} → (b ≤ a → n ≤ m) → (n ≤ m → b ≤ a) → ltb a b ≡ ltb m n
-ltb-same {a} {b} {m} {n} f g = go (decLe b a)
-  where
-    go : Dec (b ≤ a) → ltb a b ≡ ltb m n
-    go (yes h) = le-ltb a b h ∙ sym (le-ltb m n (f h))
-    go (no h) = lt-ltb a b (omega arith) ∙ sym (lt-ltb m n (above (decLe n m)))
-      where
-        above : Dec (n ≤ m) → m < n
-        above (yes k) = absurd (h (g k))
-        above (no k) = omega arith
 
 -- not x < y: y ≤ x
 pub least-of : (x y : Ratio) → less x y ≡ false → y ≼ x
