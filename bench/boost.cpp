@@ -40,7 +40,7 @@ Interval mach_number(const cloud *c)
     static const double speed[] = { 0, 0, 500, 300, 200, 43, 26 };
     Interval v(speed[c->range]);
     if (c->range >= 5)
-        v *= power(Interval(double(c->mass)) / 1000.0, k->sixth);
+        v = min(v * power(Interval(double(c->mass)) / 1000.0, k->sixth), Interval(speed[4]));
     return v / double(SOUND);
 }
 

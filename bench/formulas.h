@@ -75,6 +75,8 @@ static void mach_number(const struct cloud *c)
         over_whole(t, t, 1000);
         root(w, t, 6);
         times_whole(w, w, speed[c->range]);
+        whole(t, speed[4]);
+        smaller(w, w, t);
     }
     over_whole(w, w, SOUND);
 }

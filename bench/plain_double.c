@@ -26,14 +26,21 @@ static double reduced_distance(const struct cloud *c, double energy)
     return c->distance / 100.0 / cbrt(energy / AIR);
 }
 
+/* V of ranges 5 and 6, over C0: never faster than range 4. */
+static double slow_mach(double factor, const struct cloud *c)
+{
+    double v = factor * pow(c->mass / 1000.0, 1.0 / 6);
+    return (v < 200 ? v : 200) / SOUND;
+}
+
 static double mach_number(const struct cloud *c)
 {
     switch (c->range) {
     case 2: return 500.0 / SOUND;
     case 3: return 300.0 / SOUND;
     case 4: return 200.0 / SOUND;
-    case 5: return 43 * pow(c->mass / 1000.0, 1.0 / 6) / SOUND;
-    default: return 26 * pow(c->mass / 1000.0, 1.0 / 6) / SOUND;
+    case 5: return slow_mach(43, c);
+    default: return slow_mach(26, c);
     }
 }
 

@@ -42,9 +42,10 @@ static struct wave detonation(const struct cloud *c, double rx)
 static struct wave deflagration(const struct cloud *c, double rx)
 {
     static const double speed[] = { 0, 0, 500, 300, 200, 43, 26 };
-    double w = speed[c->range] / SOUND, g = c->state == 0 ? 6.0 / 7 : 0.75, x = c->under ? 0.34 : rx;
+    double v = speed[c->range], g = c->state == 0 ? 6.0 / 7 : 0.75, x = c->under ? 0.34 : rx;
     if (c->range > 4)
-        w *= pow(c->mass / 1000.0, 1.0 / 6);
+        v *= pow(c->mass / 1000.0, 1.0 / 6);
+    double w = (c->range > 4 && v > speed[4] ? speed[4] : v) / SOUND;
     return (struct wave){ w * w * g * (0.83 / x - 0.14 / (x * x)),
                           w * g * (1 - 0.4 * g * w) * (0.06 / x + 0.01 / (x * x) - 0.0025 / (x * x * x)) };
 }

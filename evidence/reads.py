@@ -1,14 +1,14 @@
 #!/usr/bin/env python3
 """Lines that lie across the boundaries of reckon's reads of 65,536 bytes.
 
-  reads.py FILE    writes to FILE its first 125 lines again, and behind them such lines; the same at every run
+  reads.py FILE    writes to FILE its first 143 lines again, and behind them such lines; the same at every run
 """
 import sys
 
 from reference import PROPANE, random_lines
 
 READ = 65536
-KEPT = 125
+KEPT = 143
 # a line across each boundary, and how many of its characters stand before it: an accepted case in two halves; a case of which
 # the first 44 characters alone would be accepted, in a line of 89; a case of which one character was read
 ACROSS = ((PROPANE, 22), (PROPANE * 2 + b'0', 44), (PROPANE, 1))

@@ -1,5 +1,5 @@
 #!/usr/bin/env python3
-"""A separate calculation of document 01's values in 60 digits, written from documents 01 and 003 alone.
+"""A separate calculation of document 01's values in 60 digits, with the front of request 6, written from the papers alone.
 
   reference.py lines FILE            the verdict and the seven values of each line of FILE
   reference.py check FILE ANSWERS    holds reckon's output ANSWERS for the lines of FILE against this calculation
@@ -7,8 +7,11 @@
   reference.py against RECKON COUNT [SEED]   runs the program RECKON on COUNT random lines and checks its output
   reference.py vectors DIRECTORY     the data of the program known_cases, the same at every run
   reference.py examples              the printed examples of 003 and 004 beside this calculation's values
+  reference.py surroundings COUNT [SEED]     COUNT random clouds, each compared with itself in the next less cluttered surroundings
 
 `check` and `against` print a line for every fault, and last the counts; their exit status is 0 where there is no fault.
+`surroundings` counts the clouds that come out above where there is less clutter, with no front held and with the front of request 6; its
+exit status is 0 where none does with that front.
 Everything that document 01 decides exactly is decided here with fractions. FILE and ANSWERS may be - for standard input.
 """
 import math
@@ -49,6 +52,11 @@ assert len(SUBSTANCES) == 76 and len(TABLE3) == 108
 
 P0 = 101300
 C0 = 340
+# The front's speed in m/s: in ranges 2 to 4 the upper end; in 5 and 6 a factor times the sixth root of the mass in kg, and never faster than
+# what closes range 4 (request 6).
+FRONTS = {2: 500, 3: 300, 4: 200}
+FACTORS = {5: 43, 6: 26}
+FASTEST = FRONTS[4]
 HEX = b'0123456789abcdefABCDEF'
 SIZES = (1, 1, 1, 1, 4, 2, 2, 4, 4, 2)
 LIMITS = ((1, 10**9), (1, 50000), (1, 50000), (0, 150000), (1, 10**6), (1, 500))
@@ -145,12 +153,27 @@ def detonation(state, cube, rx):
     return px, ix, near
 
 
-def deflagration(case, speed, cube, rx):
+def front(speed, mass, fastest=FASTEST):
+    """The front's speed in m/s, of a mass in grams."""
+    if speed in FRONTS:
+        return mpf(FRONTS[speed])
+    return min(FACTORS[speed] * mp.root(mpf(mass) / 1000, 6), mpf(fastest))
+
+
+def is_held(speed, mass, fastest=FASTEST):
+    """Whether the formula of range 5 or 6 gives a faster front than the fastest, by sixth powers."""
+    return speed in FACTORS and FACTORS[speed]**6 * Fraction(mass, 1000) > fastest**6
+
+
+# the last mass in grams of which the front is not held, by range
+LAST_FREE = {5: 10124398, 6: 207176211}
+assert all(not is_held(speed, mass) and is_held(speed, mass + 1) for speed, mass in LAST_FREE.items())
+
+
+def deflagration(case, speed, cube, rx, fastest=FASTEST):
     """Px and Ix of a deflagration by its own formulas, and whether 0.34 stands for Rx."""
-    kg = mpf(case[4]) / 1000
-    v = {2: mpf(500), 3: mpf(300), 4: mpf(200), 5: 43 * mp.root(kg, 6), 6: 26 * mp.root(kg, 6)}[speed]
     sigma = 7 if case[1] == 0 else 4
-    w, g = v / C0, mpf(sigma - 1) / sigma
+    w, g = front(speed, case[4], fastest) / C0, mpf(sigma - 1) / sigma
     under = cube < Fraction(39304, 10**6)
     x = mpf('0.34') if under else rx
     px = w**2 * g * (mpf('0.83') / x - mpf('0.14') / x**2)
@@ -162,15 +185,16 @@ def reduced_distance(case, energy):
     return mpf(case[8]) / 100 / mp.cbrt(real(energy) / P0)
 
 
-def reduced(case, speed, energy, cube):
+def reduced(case, speed, energy, cube, fastest=FASTEST):
     """Px and Ix, and the name of the branch that they take."""
     rx = reduced_distance(case, energy)
     px, ix, near = detonation(case[1], cube, rx)
     branch = ('gas', 'heterogeneous')[case[1]] + ' range %d' % speed + (' near field' if near else '')
     if speed >= 2:
-        dp, di, under = deflagration(case, speed, cube, rx)
+        dp, di, under = deflagration(case, speed, cube, rx, fastest)
         branch += ' at 0.34' if under else ''
         branch += ' P:' + ('deflagration' if dp < px else 'detonation') + ' I:' + ('deflagration' if di < ix else 'detonation')
+        branch += ' held' if is_held(speed, case[4], fastest) else ''
         px, ix = min(px, dp), min(ix, di)
     return px, ix, branch
 
@@ -363,9 +387,34 @@ def random_line(source):
     return bytes(line)
 
 
+def seeded(words):
+    return Source(int(words[0]) if words else 1)
+
+
 def random_lines(count, seed):
-    source = Source(int(seed[0]) if seed else 1)
+    source = seeded(seed)
     return [random_line(source) for _ in range(count)]
+
+
+def at_bound(case, more=0):
+    """A case of range 5 or 6 with the last mass of which the front is not held, or so many grams more; Rx stays, or almost, where the distance can follow."""
+    mass = LAST_FREE[cloud(case)[0]] + more
+    return changed(case, mass=mass, r=min(10**6, max(1, whole_root(Fraction(case[8]**3 * mass, case[4])))))
+
+
+def led_to_bound(source, line):
+    """One time in four an accepted line of range 5 or 6 with its mass within 3 g of where the front is held; else the line."""
+    verdict = decide(line)
+    if isinstance(verdict, int) or verdict[1] not in FACTORS or not source.chance(25):
+        return line
+    return frame_line(at_bound(verdict[0], source.below(6) - 2))
+
+
+def tried_lines(count, seed):
+    """Random lines, some of them led to the front's bound from the same source afterwards, so that the others are those of random_lines."""
+    source = seeded(seed)
+    lines = [random_line(source) for _ in range(count)]
+    return [led_to_bound(source, line) for line in lines]
 
 
 # The data of known_cases.
@@ -437,17 +486,31 @@ def classes():
                     yield frame_line([substance, state, placement, around, 8000000, c, 770, 0, 4000 * around, 60 + 10 * around])
 
 
-def branches(source):
-    """Two cases for every branch of the wave formulas that 40,000 random cases meet."""
+def first_two(verdicts, fastest):
+    """Two cases for every branch of the wave formulas that accepted cases meet."""
     seen = {}
-    for _ in range(40000):
-        case = random_case(source)
-        verdict = decide(frame_line(case))
-        if not isinstance(verdict, int):
-            seen.setdefault(reduced(*verdict)[2], []).append(case)
-    for branch in sorted(seen):
-        for case in seen[branch][:2]:
-            yield frame_line(case)
+    for verdict in verdicts:
+        seen.setdefault(reduced(*verdict, fastest)[2], []).append(verdict[0])
+    return [case for branch in sorted(seen) for case in seen[branch][:2]]
+
+
+def accepted_of(cases):
+    """The accepted ones of some cases, each as decide has it."""
+    return [verdict for verdict in (decide(frame_line(case)) for case in cases) if not isinstance(verdict, int)]
+
+
+def branches(source):
+    """Two cases for every branch of the wave formulas that 40,000 random cases meet.
+
+    First the branches that they would meet if no front were held, so that there are cases that a held front brings from each of these to
+    another; then what is missing of those that they do meet, among them such cases with the mass at the bound.
+    """
+    several = accepted_of(random_case(source) for _ in range(40000))
+    free = first_two(several, math.inf)
+    several = [verdict for verdict in several if verdict[1] in FACTORS]
+    held = first_two(several + accepted_of(at_bound(verdict[0]) for verdict in several), FASTEST)
+    for case in free + [case for case in held if case not in free]:
+        yield frame_line(case)
 
 
 # cases whose energy is P0 times a cube, with the side of that cube in metres
@@ -468,6 +531,28 @@ def boundaries():
         for step in STEPS:
             for r in (-1, 0, 1):
                 yield frame_line(changed(case, r=int(100 * side * step) + r))
+
+
+# petrol and methane: range 5 and 6 in an open field
+PETROL = [30, 0, 1, 4, 500000000, 700, 770, 0, 20000, 70]
+METHANE = changed(PETROL, substance=65)
+
+
+def fronts():
+    """Where the front reaches 200 m/s.
+
+    The mass at the bound, within 4 g of it and a hundredth to each side, at Rx 0.3 and 1; then 500 t and 1,000 t in a tank park and in an open field.
+    """
+    for case in (PETROL, METHANE):
+        last = LAST_FREE[cloud(case)[0]]
+        for state in (0, 1):
+            for number, mass in enumerate((last - last // 100, last - 3, last, last, last + 1, last + 1, last + 4, last + last // 100)):
+                heavy = changed(case, state=state, placement=state, mass=mass)
+                yield frame_line(changed(heavy, r=centimetres(heavy, Fraction(1 if number % 2 else '0.3'))))
+    for case in (PETROL, METHANE):
+        for mass, metres in ((500000000, 200), (500000000, 500), (500000000, 1000), (1000000000, 1000)):
+            for around in (3, 4):
+                yield frame_line(changed(case, around=around, mass=mass, r=100 * metres))
 
 
 def extremes():
@@ -596,7 +681,7 @@ def vectors(directory):
     source = Source(1)
     groups = (
         ('known', known()), ('examples', (example[1] for example in EXAMPLES)), ('substances', substances()), ('classes', classes()),
-        ('branches', branches(source)), ('boundaries', boundaries()), ('extremes', extremes()), ('refusals', refusals()),
+        ('branches', branches(source)), ('boundaries', [*boundaries(), *fronts()]), ('extremes', extremes()), ('refusals', refusals()),
         ('random', (random_line(source) for _ in range(120))),
     )
     for name, several in groups:
@@ -629,6 +714,36 @@ def examples():
     return 0
 
 
+def rises(case, fastest):
+    """For ΔP and for I: whether the figure is greater in the next less cluttered surroundings; None where one of the two is refused."""
+    both = accepted_of(changed(case, around=case[3] + more) for more in (0, 1))
+    if len(both) < 2:
+        return None
+    here, there = (in_units(*reduced(*verdict, fastest)[:2], verdict[2]) for verdict in both)
+    return [after > before for before, after in zip(here, there)]
+
+
+def risen(cases, fastest):
+    """How many clouds are accepted in both surroundings, come out above by either figure, by pressure, by impulse."""
+    several = [both for both in (rises(case, fastest) for case in cases) if both is not None]
+    return len(several), sum(p or i for p, i in several), sum(p for p, _ in several), sum(i for _, i in several)
+
+
+def surroundings(count, seed):
+    """Each cloud in surroundings 1, 2 and 3, held against itself in the next."""
+    source, cases, above = seeded(seed), [], 0
+    while len(cases) < count:
+        cases += [verdict[0] for verdict in accepted_of([random_case(source)])]
+    for around in (1, 2, 3):
+        moved = [changed(case, around=around) for case in cases]
+        for fastest, words in ((math.inf, 'no front held'), (FASTEST, 'fronts held at %d m/s' % FASTEST)):
+            clouds, either, pressures, impulses = risen(moved, fastest)
+            print('surroundings %d and %d, %s: of %d clouds %d are above in %d, %d by pressure, %d by impulse' % (
+                around, around + 1, words, clouds, either, around + 1, pressures, impulses))
+        above += either
+    return 1 if above else 0
+
+
 def show(name):
     for number, line in enumerate(lines_of(contents(name)), start=1):
         verdict = decide(line)
@@ -646,15 +761,17 @@ def main(words):
     if len(words) == 3 and words[0] == 'check':
         return check(lines_of(contents(words[1])), contents(words[2]))
     if len(words) in (3, 4) and words[0] == 'against':
-        lines = random_lines(int(words[2]), words[3:])
+        lines = tried_lines(int(words[2]), words[3:])
         text = b''.join(line + b'\n' for line in lines)
         return check(lines, subprocess.run([words[1]], input=text, stdout=subprocess.PIPE, check=True).stdout)
     if len(words) == 2 and words[0] == 'vectors':
         return vectors(words[1])
     if words == ['examples']:
         return examples()
+    if len(words) in (2, 3) and words[0] == 'surroundings':
+        return surroundings(int(words[1]), words[2:])
     if len(words) in (2, 3) and words[0] == 'random':
-        for line in random_lines(int(words[1]), words[2:]):
+        for line in tried_lines(int(words[1]), words[2:]):
             sys.stdout.buffer.write(line + b'\n')
         return 0
     print(__doc__)

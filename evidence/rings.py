@@ -1,5 +1,5 @@
 #!/usr/bin/env python3
-"""A separate calculation of rings (request 1) in 60 digits, written from the papers alone.
+"""A separate calculation of rings (request 1) in 60 digits, with the front of request 6, written from the papers alone.
 
   rings.py lines FILE                             what fits each request of FILE, from the tightest ends to the widest
   rings.py vectors DIRECTORY                      the files stdin and stdout of the program known_rings, the same at every run
@@ -19,8 +19,8 @@ from fractions import Fraction
 
 from mpmath import mp, mpf
 
-from reference import (CUBES, HEX, LIMITS, ORDER, P0, PROPANE, Q, SPOILED, STEPS, Source, answer, centimetres, changed, cloud, contents, decide,
-                       fields, frame_line, lines_of, random_case, random_line, reduced)
+from reference import (CUBES, HEX, LAST_FREE, LIMITS, METHANE, ORDER, P0, PETROL, PROPANE, Q, SPOILED, STEPS, Source, answer, centimetres, changed,
+                       cloud, contents, decide, fields, frame_line, lines_of, random_case, random_line, reduced, seeded)
 
 MOST = 18 * P0  # the greatest threshold, and the overpressure of a detonation's near field
 
@@ -295,7 +295,7 @@ def random_requests(reckon, count, source):
 
 
 def against(reckon, archive, count, seed):
-    requests = random_requests(reckon, count, Source(int(seed[0]) if seed else 1))
+    requests = random_requests(reckon, count, seeded(seed))
     return check(reckon, requests, driven(archive, requests))
 
 
@@ -426,10 +426,22 @@ def at_random(source):
         yield min(MOST, top + source.below(top)), random_line(source)
 
 
+def fronts():
+    """500 t of petrol and of methane in a tank park and in an open field, and in the field the mass at the front's bound and one gram more."""
+    for case in (PETROL, METHANE):
+        last = LAST_FREE[cloud(case)[0]]
+        for around in (3, 4):
+            yield from found_rings(changed(case, around=around), range(30000, 200000, 10000), 3)
+        for mass in (last, last + 1):
+            yield from found_rings(changed(case, mass=mass), range(20000, 200000, 20000), 2)
+    for around in (3, 4):
+        yield 30000, frame_line(changed(PETROL, around=around))  # the rings of docs/frames.md
+
+
 def vectors(directory):
     """A request is kept where its answer is determined: any ends that err by less than a millionth of the value give it."""
     source, kept = Source(1), {}
-    groups = known(), edges(), refusals(), jumps(), flats(), limits(), nearest(), speeds(source), far(source), at_random(source)
+    groups = known(), edges(), refusals(), jumps(), flats(), limits(), nearest(), speeds(source), far(source), at_random(source), fronts()
     for both in itertools.chain(*groups):
         kept[both] = determined(*both)
     kept = [(both, spelled(verdict).encode()) for both, verdict in kept.items() if verdict is not None]

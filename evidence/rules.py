@@ -1,5 +1,5 @@
 #!/usr/bin/env python3
-"""A separate calculation of the rules that give ΔP and I (request 5) in 60 digits, written from the papers alone.
+"""A separate calculation of the rules that give ΔP and I (request 5) in 60 digits, with the front of request 6, written from the papers alone.
 
   rules.py lines FILE                      the rules of each line of FILE, and the figure by each rule
   rules.py vectors DIRECTORY               the files stdin and stdout of the program known_rules, the same at every run
@@ -19,8 +19,8 @@ from fractions import Fraction
 
 from mpmath import mp, mpf
 
-from reference import (CUBES, LIMITS, ORDER, P0, PROPANE, Q, SPOILED, STEPS, Source, centimetres, changed, cloud, contents, decide, deflagration,
-                       detonation, fields, frame_line, in_units, lines_of, random_case, random_line, reduced_distance)
+from reference import (CUBES, LAST_FREE, LIMITS, METHANE, ORDER, P0, PETROL, PROPANE, Q, SPOILED, STEPS, Source, centimetres, changed, cloud, contents,
+                       decide, deflagration, detonation, fields, frame_line, in_units, lines_of, random_case, random_line, reduced_distance, seeded)
 from rings import greatest_upper, least_lower, spells
 
 UNDECIDED, NEAR_FIELD, DETONATION, DEFLAGRATION, AT_034 = range(5)
@@ -109,11 +109,15 @@ def crossings(case, figure):
 
 
 def touching_mass(case, figure):
-    """The last mass in grams at which the detonation figure is nowhere the smaller, so that the two touch; None where there is none."""
+    """The last mass in grams at which the detonation figure of a case in range 5 or 6 is nowhere the smaller, so that the two touch.
+
+    None where there is none. The front grows with the mass as long as it is not held, so no heavier cloud has a touch: a gas has none for its
+    impulse, which takes a front of 215 m/s.
+    """
     def alike(mass):
         heavy = changed(case, mass=mass)
         return detonates(heavy, figure, least_place(heavy, figure))
-    return last_alike(alike, *LIMITS[0])
+    return last_alike(alike, LIMITS[0][0], LAST_FREE[cloud(case)[0]])
 
 
 # Holding the library's answers against the exact side.
@@ -288,7 +292,7 @@ def random_meetings(source, count):
 
 
 def against(archive, count, seed):
-    source = Source(int(seed[0]) if seed else 1)
+    source = seeded(seed)
     requests = [random_request(source) for _ in range(count)] + random_meetings(source, count)
     return check(requests, driven(archive, requests))
 
@@ -354,12 +358,25 @@ def meetings():
 
 def touches():
     """Fronts just too slow and just fast enough for a detonation figure that is the smaller, at the distance where they almost touch."""
-    for substance, state, figure in ((40, 0, PRESSURE), (65, 0, IMPULSE), (40, 1, IMPULSE)):
+    for substance, state, figure in ((40, 0, PRESSURE), (65, 0, PRESSURE), (40, 1, IMPULSE)):
         case = [substance, state, 0, 4, 1, 700, 770, 0, 1, 60]
         mass = touching_mass(case, figure)
-        for other in ([] if mass is None else (mass - mass // 1000, mass + mass // 1000)):
+        for other in (mass - mass // 1000, mass + mass // 1000):
             heavy = changed(case, mass=other)
             yield frame_line(changed(heavy, r=least_place(heavy, figure)))
+
+
+def fronts():
+    """Gases with the mass at the front's bound, one gram more, and the greatest, where the detonation figure is least beside the other.
+
+    It is the smaller there for ΔP. For I it is not, and would be with a faster front.
+    """
+    for case in (PETROL, METHANE):
+        last = LAST_FREE[cloud(case)[0]]
+        for figure in (PRESSURE, IMPULSE):
+            for mass in (last, last + 1, LIMITS[0][1]):
+                heavy = changed(case, mass=mass)
+                yield frame_line(changed(heavy, r=least_place(heavy, figure)))
 
 
 def speeds(source):
@@ -389,7 +406,7 @@ def refusals():
 
 def vectors(directory):
     """A line is kept where its answer is determined: enclosures that are narrower than a hundred-thousandth of the value give it."""
-    lines = dict.fromkeys(itertools.chain(known(), boundaries(), meetings(), refusals(), touches(), speeds(Source(1))))
+    lines = dict.fromkeys(itertools.chain(known(), boundaries(), meetings(), refusals(), touches(), speeds(Source(1)), fronts()))
     kept = [(line, word.encode()) for line, word in ((line, determined(line)) for line in lines) if word is not None]
     with open(os.path.join(directory, 'stdin'), 'wb') as several, open(os.path.join(directory, 'stdout'), 'wb') as records:
         for number, (line, word) in enumerate(kept, start=1):

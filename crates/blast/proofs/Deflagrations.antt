@@ -1,6 +1,6 @@
 -- The deflagration figures, and the smaller of two. Assumes nothing.
 use Prim.Native.Nat.{ℕ, _≤_}
-use mathlib.Core.Path.{_≡_, sym, subst, subst⁻¹, ap, _∙_}
+use mathlib.Core.Path.{_≡_, sym, subst, subst⁻¹, ap}
 use mathlib.Core.Bool.{true, false, cond}
 use native.Mathlib.Omega.{arith}
 use native.Mathlib.Nat.{le-refl}
@@ -14,11 +14,11 @@ use Rattle.guidance.specs.declared.Case.{Case}
 use Rattle.guidance.specs.declared.Cloud.{Cloud}
 use Rattle.guidance.specs.Clouds.{deflagrates}
 use Rattle.guidance.specs.Distances.{nearer, cube034}
-use Rattle.guidance.specs.Waves.{hundredths, thousandths, frontSpeed, machNumber, expansion, deflagrationDistance, deflagrationPressure, deflagrationImpulse}
+use Rattle.guidance.specs.Waves.{hundredths, thousandths, frontSpeedOf, frontSpeed, machNumber, expansion, deflagrationDistance, deflagrationPressure, deflagrationImpulse}
 use Rattle.guidance.specs.Cases.{Fields}
 use Rattle.guidance.specs.CloudWords.{CloudOf}
 use Rattle.waves.specs.EndBounds.{lower-coarser, upper-coarser, constant-lower, constant-upper}
-use Rattle.waves.specs.Fronts.{Mass, Front, frontSpeedOf, front-speed-of}
+use Rattle.waves.specs.Fronts.{Mass, Front}
 use Rattle.waves.specs.Deflagration.{Mach, expansion-of, Deflagrating, DeflagrationPressure, DeflagrationImpulse}
 use Rattle.blast.specs.declared.Flame.{Flame}
 use Rattle.blast.specs.declared.Deflagration.{Deflagration}
@@ -36,7 +36,7 @@ pub mass-of : {c : Case} → Fields c → Mass (c .mass)
 mass-of f = record { least = f .mass; most = f .mass-most }
 
 pub mach-result : {c : Case} {k : Cloud} {v w : Span} → CloudOf c k → Front (frontSpeedOf (k .range) (c .mass)) v → Mach v w → MachSpan c w
-unfolding machNumber
+unfolding machNumber frontSpeed
 mach-result {c} {k} {v} {w} h f m =
     record {
       normal = m .normal;
@@ -47,7 +47,7 @@ mach-result {c} {k} {v} {w} h f m =
     }
   where
     same : frontSpeed c ≡ frontSpeedOf (k .range) (c .mass)
-    same = front-speed-of c ∙ ap (λ (i : ℕ). frontSpeedOf i (c .mass)) (sym (h .range))
+    same = ap (λ (i : ℕ). frontSpeedOf i (c .mass)) (sym (h .range))
 
     speed : (n : ℕ) → enough ≤ n → Encloses v (frontSpeed c) n
     speed n l = subst⁻¹ (λ (x : Formula). Encloses v x n) same (f .encloses n l)

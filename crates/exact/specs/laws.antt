@@ -6,6 +6,7 @@ pub mod Decide
 pub mod Ratio
 pub mod Frac
 pub mod Pairs
+pub mod Least
 pub mod Divisors
 pub mod Linear
 pub mod Sums

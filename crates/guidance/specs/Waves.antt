@@ -2,7 +2,7 @@
 use Prim.Native.Nat.{ℕ, _-_}
 use mathlib.Core.Bool.{Bool, cond}
 use native.Mathlib.Omega.{arith}
-use lib.Dec.{eqb}
+use lib.Dec.{eqb, ltb}
 use Rattle.exact.specs.Fraction.{Ratio, whole, ofRatio, neg}
 use Rattle.exact.specs.Formula.{Formula, powerOf, const, add, sub, mul, div, least, ln, exp, wholePower}
 use Rattle.guidance.specs.declared.Case.{Case}
@@ -94,14 +94,28 @@ detonationImpulse air c =
     (cond (nearField air c) (number (hundredths 16)) (aerosolImpulse (reducedDistance air c)))
     (gasImpulse (cond (nearField air c) (number (thousandths 142)) (reducedDistance air c)))
 
--- The front speed V: the upper end of ranges 2, 3 and 4; 43 M^(1/6) and 26 M^(1/6) in ranges 5 and 6, M the mass in kg
+-- The speed that closes range 2, 3 or 4, in m/s; a mass in grams as M, in kg
+
+unfoldable pub rangeEnd : (range : ℕ) → ℕ
+rangeEnd range = cond (eqb range 2) 500 (cond (eqb range 3) 300 200)
+
+abbrev pub kilograms : ℕ → Ratio
+kilograms mass = over mass 1000 (omega arith)
+
+-- The front speed V by the range and the mass in grams (document 01, "From frame to speed range"): the upper end of ranges 2, 3 and 4; in ranges 5
+-- and 6 the smaller of 43 M^(1/6) or 26 M^(1/6) and the end of range 4 (request 6)
+
+abbrev pub byMass : (range mass : ℕ) → Formula
+byMass range mass = mul (number (whole (cond (eqb range 5) 43 26))) (raised sixth (number (kilograms mass)))
+
+unfoldable pub slowFront : (range mass : ℕ) → Formula
+slowFront range mass = least (byMass range mass) (number (whole (rangeEnd 4)))
+
+unfoldable pub frontSpeedOf : (range mass : ℕ) → Formula
+frontSpeedOf range mass = cond (ltb range 5) (number (whole (rangeEnd range))) (slowFront range mass)
 
 unfoldable pub frontSpeed : Case → Formula
-frontSpeed c =
-    cond (eqb (rangeOf c) 2) (number (whole 500))
-    (cond (eqb (rangeOf c) 3) (number (whole 300))
-    (cond (eqb (rangeOf c) 4) (number (whole 200))
-    (mul (number (whole (cond (eqb (rangeOf c) 5) 43 26))) (raised sixth (number (over (c .mass) 1000 (omega arith)))))))
+frontSpeed c = frontSpeedOf (rangeOf c) (c .mass)
 
 -- w = V/C0; g = (σ - 1)/σ, with σ = 7 for gas and 4 for heterogeneous
 

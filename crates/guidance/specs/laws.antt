@@ -1,6 +1,7 @@
 -- The laws: nothing here need be believed.
 pub mod Ranges
 pub mod Limits
+pub mod Fronts
 pub mod Energies
 pub mod Order
 pub mod Comparisons

@@ -8,12 +8,12 @@ use lib.Pow.{pow-pos}
 use Rattle.exact.specs.Fraction.{Ratio, ofRatio, _⊞_, neg, _⊟_, _⊑_}
 use Rattle.exact.specs.Bracket.{Bracket}
 use Rattle.exact.specs.Formula.{Formula, bracketAt}
-use Rattle.exact.specs.laws.Frac.{⊑-trans}
+use Rattle.exact.specs.laws.Frac.{⊑-trans, smaller-right}
 use Rattle.exact.specs.laws.Containment.{Inside}
 use Rattle.exact.specs.laws.Meeting.{Meets, meeting}
 use Rattle.exact.specs.Holding.{_∈_}
 use Rattle.span.specs.declared.Span.{Span}
-use Rattle.span.specs.Spans.{unit, unit-positive, units, hull, fraction, Normal, Rel, Width, Constant, Product, Quotient, Sum, Difference}
+use Rattle.span.specs.Spans.{unit, unit-positive, units, hull, fraction, Normal, Rel, Width, Constant, Product, Quotient, Sum, Difference, Smaller}
 use Rattle.span.specs.Enclosing.{Encloses}
 use Rattle.span.specs.Bounds.{upper-end, product-at, quotient-at, held, value-width}
 use Rattle.span.specs.Windows.{exponent-most, exponent-least, value-most}
@@ -145,13 +145,23 @@ sum-upper {a} {b} {r} {n} {d} na nb s h =
     let more : a .hi * 2 ^ a .e ≤ r .hi * 2 ^ r .e = le-of-mul-le-mul-right {k = unit * unit} (omega (arith, at)) (mul-pos unit-positive unit-positive) in
     record { above = omega (arith, mul-le-mul-right d more, h .above) }
 
+-- a lower end that is not above another
+not-above : {a r : Span} {n d : ℕ} → r .lo * 2 ^ r .e ≤ a .lo * 2 ^ a .e → LowerAtMost a n d → LowerAtMost r n d
+not-above {d = d} l h = record { below = omega (arith, mul-le-mul-right d l, h .below) }
+
 -- what is taken away may be left out
 pub difference-lower : {a b r : Span} {n d : ℕ} → Normal a → Normal b → Difference a b r → LowerAtMost a n d → LowerAtMost r n d
 unfolding hull units fraction _⊟_ _⊞_ neg
-difference-lower {a} {b} {r} {n} {d} na nb s h =
+difference-lower {a} {b} {r} na nb s h =
     let at = s .holds _ _ (lower-end a na) (lower-end b nb) .above .cross in
-    let less : r .lo * 2 ^ r .e ≤ a .lo * 2 ^ a .e = le-of-mul-le-mul-right {k = unit * unit} (omega (arith, at)) (mul-pos unit-positive unit-positive) in
-    record { below = omega (arith, mul-le-mul-right d less, h .below) }
+    not-above (le-of-mul-le-mul-right {k = unit * unit} (omega (arith, at)) (mul-pos unit-positive unit-positive)) h
+
+-- and so may the first of two
+pub smaller-lower : {a b r : Span} {n d : ℕ} → Normal a → Normal b → Smaller a b r → LowerAtMost b n d → LowerAtMost r n d
+unfolding hull units fraction
+smaller-lower {a} {b} {r} na nb s h =
+    let at = ⊑-trans (s .holds _ _ (lower-end a na) (lower-end b nb) .above) (smaller-right _ _) .cross in
+    not-above (le-of-mul-le-mul-right {k = unit} (omega (arith, at)) unit-positive) h
 
 -- What is at most n/d at its lower end, and narrow, is at most 2^j; what is at least n/d at its upper end is at least 2^-j
 

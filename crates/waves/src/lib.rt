@@ -1,8 +1,10 @@
 // The wave formulas on intervals: reduced pressure and impulse of detonation and deflagration over the reduced distance R.
 // Each function follows its formula operation by operation.
+ghost use Rattle.exact.specs.Fraction.{whole};
+ghost use Rattle.guidance.specs.Waves.{number, rangeEnd, slowFront, frontSpeedOf};
 ghost use Rattle.waves.specs.Detonation.{Distance, AerosolPressure, AerosolImpulse};
 ghost use Rattle.waves.specs.Gas.{Logged, Near, LogDistance, GasPressure, GasImpulse};
-ghost use Rattle.waves.specs.Fronts.{Mass, SixthRoot, Factor, Front, slowFront, frontSpeedOf};
+ghost use Rattle.waves.specs.Fronts.{Mass, SixthRoot, Factor, Front};
 ghost use Rattle.waves.specs.Deflagration.{FallingPressure, FallingImpulse, Speed, Mach, Expansion, Deflagrating, DeflagrationPressure, DeflagrationImpulse};
 use fixed::Log;
 use span::Span;
@@ -154,20 +156,9 @@ fn factor(range: u64) -> Span
     }
 }
 
-// The front speed of ranges 5 and 6.
-fn slow_front(range: u64, mass: u64) -> Span
-    requires { ⌜ Mass mass ⌝ }
-    ensures { λ v. ⌜ Front (slowFront range mass) v ⌝ }
-{
-    let f = factor(range);
-    let root = sixth_root(mass);
-    span::mul(f, root)
-}
-
-// The front speed V of ranges 2 to 6, in m/s.
-pub fn front_speed(range: u64, mass: u64) -> Span
-    requires { ⌜ Mass mass ⌝ }
-    ensures { λ v. ⌜ Front (frontSpeedOf range mass) v ⌝ }
+// The speed that closes ranges 2, 3 and 4, in m/s.
+fn range_end(range: u64) -> Span
+    ensures { λ v. ⌜ Front (number (whole (rangeEnd range))) v ⌝ }
 {
     if range == 2 {
         coefficients::FRONT_500
@@ -175,11 +166,31 @@ pub fn front_speed(range: u64, mass: u64) -> Span
         if range == 3 {
             coefficients::FRONT_300
         } else {
-            if range == 4 {
-                coefficients::FRONT_200
-            } else {
-                slow_front(range, mass)
-            }
+            coefficients::FRONT_200
         }
+    }
+}
+
+// The front speed of ranges 5 and 6: by the mass, but never faster than the end of range 4.
+fn slow_front(range: u64, mass: u64) -> Span
+    requires { ⌜ Mass mass ⌝ }
+    ensures { λ v. ⌜ Front (slowFront range mass) v ⌝ }
+{
+    let f = factor(range);
+    let root = sixth_root(mass);
+    let v = span::mul(f, root);
+    let end = range_end(4);
+    span::lesser(v, end)
+}
+
+// The front speed V of ranges 2 to 6, in m/s.
+pub fn front_speed(range: u64, mass: u64) -> Span
+    requires { ⌜ Mass mass ⌝ }
+    ensures { λ v. ⌜ Front (frontSpeedOf range mass) v ⌝ }
+{
+    if range < 5 {
+        range_end(range)
+    } else {
+        slow_front(range, mass)
     }
 }

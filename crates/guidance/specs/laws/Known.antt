@@ -1,4 +1,5 @@
--- Pressures of document 01's case Q whose exact value is a fraction, by computation of a bracket; the range of a class in its surroundings. Assumes nothing.
+-- Pressures of document 01's case Q whose exact value is a fraction, and some front speeds, by computation of a bracket; the range of a class in its
+-- surroundings. Assumes nothing.
 use Prim.Native.Nat.{ℕ}
 use mathlib.Core.Path.{_≡_, refl}
 use mathlib.Core.Bool.{Bool, true}
@@ -20,7 +21,7 @@ use Rattle.guidance.specs.Substances.{classOf, heatOf}
 use Rattle.guidance.specs.Ranges.{ranges, rangeAt}
 use Rattle.guidance.specs.Clouds.{rangeOf, groundFactor, leanBy, leanFactor, aerosolFactor, energy}
 use Rattle.guidance.specs.Distances.{less, metres, cubed, nearer, farther, cube02, cube025}
-use Rattle.guidance.specs.Waves.{standardAir, thousandths, tenths, reducedDistance, aerosolPressure, gasPressure, nearField, detonationPressure, reducedPressure, inPascals, overpressure}
+use Rattle.guidance.specs.Waves.{standardAir, thousandths, tenths, reducedDistance, aerosolPressure, gasPressure, nearField, detonationPressure, rangeEnd, slowFront, frontSpeedOf, reducedPressure, inPascals, overpressure}
 
 -- case Q: unlisted, raised, surroundings 1, 100 g, c = s, 1013 J/g, 70 kg
 abbrev pub q : (state distance : ℕ) → Case
@@ -63,23 +64,28 @@ is-at-1 x v h = first x v (bracketAt x 1) refl (inside-true (bracketAt x 1) (poi
 pub point-holds : {x : Formula} {v : Ratio} → FirstIs x v → Holds (point v) x
 point-holds {x} {v} f = contains-holds x 1 (omega arith) (point v) (rw (f .is) (f .within))
 
-record Pressures : Type 0 where
+record Computed : Type 0 where
   gas : bracketIs (overpressure standardAir (q 0 19)) (whole 1823400) ≡ true
   reduced : bracketIs (reducedPressure standardAir (q 1 100)) (thousandths 285) ≡ true
   heterogeneous : bracketIs (overpressure standardAir (q 1 100)) (tenths 288705) ≡ true
+  -- V of 500 t is the point 200, in range 5 by the third bracket and in range 6 by the fifth; V of 64 kg lies within 1 of 43·2 and of 26·2
+  tonnes-5 : inside (bracketAt (frontSpeedOf 5 500000000) 3) (point (whole 200)) ≡ true
+  tonnes-6 : inside (bracketAt (frontSpeedOf 6 500000000) 5) (point (whole 200)) ≡ true
+  kilograms-5 : inside (bracketAt (frontSpeedOf 5 64000) 4) (record { lo = ofRatio (whole 85); hi = ofRatio (whole 87) }) ≡ true
+  kilograms-6 : inside (bracketAt (frontSpeedOf 6 64000) 4) (record { lo = ofRatio (whole 51); hi = ofRatio (whole 53) }) ≡ true
 
-pressures : Pressures
-unfolding bracketIs overpressure inPascals reducedPressure detonationPressure nearField reducedDistance aerosolPressure gasPressure nearer farther less cubed metres cube02 cube025 energy groundFactor leanFactor leanBy aerosolFactor heatOf rangeOf rangeAt ranges classOf inside bracketAt lift _>>_ quotientB lnB expB overPairs quotients smaller larger decF decPositive decPositives Dec·and decAbove0 decLe lnLowerAt lnUpperAt lnLower lnUpper ln2Lower ln2Upper exponent climb fraction argument third seriesLower seriesUpper lnTerm lnTail gap oneOver even expLowerAt expUpperAt expUpperOf oneOverOf expLower expUpper expTerm expTail factorial power sum recip whole _⊕_ _⊗_ _⊖_ ofRatio zeroF oneF magnitude _⊞_ neg _⊟_ _⊠_ inverse
-pressures = record { gas = refl; reduced = refl; heterogeneous = refl }
+computed : Computed
+unfolding bracketIs overpressure inPascals reducedPressure detonationPressure nearField reducedDistance aerosolPressure gasPressure frontSpeedOf slowFront rangeEnd nearer farther less cubed metres cube02 cube025 energy groundFactor leanFactor leanBy aerosolFactor heatOf rangeOf rangeAt ranges classOf inside bracketAt lift _>>_ quotientB lnB expB overPairs quotients smaller larger decF decPositive decPositives Dec·and decAbove0 decLe lnLowerAt lnUpperAt lnLower lnUpper ln2Lower ln2Upper exponent climb fraction argument third seriesLower seriesUpper lnTerm lnTail gap oneOver even expLowerAt expUpperAt expUpperOf oneOverOf expLower expUpper expTerm expTail factorial power sum recip whole _⊕_ _⊗_ _⊖_ ofRatio zeroF oneF magnitude _⊞_ neg _⊟_ _⊠_ inverse
+computed = record { gas = refl; reduced = refl; heterogeneous = refl; tonnes-5 = refl; tonnes-6 = refl; kilograms-5 = refl; kilograms-6 = refl }
 
 pub gas-near-field : FirstIs (overpressure standardAir (q 0 19)) (whole 1823400)
-gas-near-field = is-at-1 _ _ (pressures .gas)
+gas-near-field = is-at-1 _ _ (computed .gas)
 
 pub heterogeneous-reduced : FirstIs (reducedPressure standardAir (q 1 100)) (thousandths 285)
-heterogeneous-reduced = is-at-1 _ _ (pressures .reduced)
+heterogeneous-reduced = is-at-1 _ _ (computed .reduced)
 
 pub heterogeneous-pressure : FirstIs (overpressure standardAir (q 1 100)) (tenths 288705)
-heterogeneous-pressure = is-at-1 _ _ (pressures .heterogeneous)
+heterogeneous-pressure = is-at-1 _ _ (computed .heterogeneous)
 
 -- the range of every case of a class in some surroundings
 pub range-of : (c : Case) {class surroundings : ℕ} → classOf (c .substance) ≡ class → c .surroundings ≡ surroundings → rangeOf c ≡ rangeAt class surroundings

@@ -16,9 +16,9 @@ use Rattle.span.specs.Enclosing.{Encloses, fraction-encloses, wider}
 use Rattle.enclosure.specs.Promises.{enough, Powerable, SixthPower}
 use Rattle.enclosure.specs.PowerWindows.{Reached, Bounded, power-between}
 use Rattle.guidance.specs.Clouds.{over}
-use Rattle.guidance.specs.Waves.{number, raised, sixth, tenths}
+use Rattle.guidance.specs.Waves.{number, raised, sixth, tenths, kilograms}
 use Rattle.waves.specs.EndBounds.{enclosed-lower, enclosed-upper, exponent-least-of}
-use Rattle.waves.specs.Fronts.{kilograms, Mass, SixthRoot}
+use Rattle.waves.specs.Fronts.{Mass, SixthRoot}
 use Rattle.waves.proofs.sixth_root.Statement.{statement}
 use Rattle.waves.proofs.sixth_root.Tie as tie
 
