@@ -1,5 +1,5 @@
 /* Calls Yakepuhi from C: a case as a line and as a frame's bytes, its overpressure and its impulse alone, its rules,
-   its rings, its line in the old form, what every refusal is called, each printed in readable form. */
+   its rings, its line in the old form, what every refusal but a sheet's is called, each printed in readable form. */
 #include "yakepuhi.h"
 
 #include <inttypes.h>

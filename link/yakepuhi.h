@@ -4,10 +4,11 @@
    - each pointer reaches as many bytes as the length beside it says, or one whole uint64_t, and is not null, even where the length is 0;
    - no two of a call's pointers reach the same byte, and no other thread writes what they reach during the call.
 
-   Every function gives 0 for an accepted case, else the number of the first refusal that applies, in this order:
+   Every function gives 0 for what it accepts, else the number of the first refusal that applies, in this order:
    1 length, 2 digit, for an old line 15 tag, 16 double, then 3 substance, 12 state, 13 placement, 14 surroundings, 5 quantity, 6 heat;
-   then for an answer and its rules 7 beyond, 8 space, for a ring 9 threshold, 10 weak, 11 strong, for the old form 8 space. 4, which stood
-   for all of 12 to 14, is retired: no function gives it.
+   then for an answer and its rules 7 beyond, 8 space, for a ring 9 threshold, 10 weak, 11 strong, for the old form 8 space, for a case that is
+   added to a sheet 7 beyond, 8 space, 17 full. A place of a sheet is refused by 8 space and 18 vacant alone. 4, which stood for all of 12 to 14,
+   is retired: no function gives it.
    After a refusal everything that was lent for writing has the bytes that it had.
 
    They use no heap, no file and no global state, so any number of threads can call them at once. */
@@ -91,6 +92,38 @@ uint64_t yakepuhi_frame_from_old(const uint8_t *line, size_t line_length, uint8_
    bytes, each double the nearest to its fraction. Taken in again they give the frame that was given. 8: the area has fewer than 116 bytes.
    It never gives 2, 7, 15 or 16. */
 uint64_t yakepuhi_old_from_frame(const uint8_t *frame, size_t frame_length, uint8_t *area, size_t area_length);
+
+/* The bytes of a study sheet, and how many places it has; they are counted from 1. */
+#define YAKEPUHI_SHEET 2048
+#define YAKEPUHI_PLACES 64
+
+/* A study sheet holds up to 64 cases in the order in which they were added, each at its place. It is the first 2,048 bytes of what is lent,
+   all zero when empty. They can be copied whole, and kept for the same library; what they hold now is in docs/sheets.md, but a later library may keep
+   more in them: let these four functions alone read and write them.
+   From 2,048 zeros on, any sequence of calls does, and tells, what it would on a plain list with holes. Bytes come by otherwise may be anything: each call
+   ends, and does as on the list that docs/sheets.md reads from them.
+   In all four, 8 comes where fewer than 2,048 bytes are lent for the sheet. Where adding, withdrawing or closing is accepted, all 2,048 are
+   written; those behind them stay. */
+
+/* Adds a case given as the bytes of a frame behind all others: at place 1 of an empty sheet, else at the place after the last case, and into
+   no gap. Accepted, it writes the sheet and sets *place to the case's place, 1 to 64.
+   After 1, 3, 12 to 14, 5, 6 and 7 comes 8, then 17, full: the last place that holds a case is the 64th, whatever gaps there are before it.
+   It never gives 2 or 18. */
+uint64_t yakepuhi_sheet_add(uint8_t *sheet, size_t sheet_length, const uint8_t *frame, size_t frame_length, uint64_t *place);
+
+/* Withdraws the case at a place: a gap is left, and no other case moves. Past the last place that still holds a case there is no gap: the next
+   case that is added comes right after it. 8, then 18, vacant: the place holds no case; 0 and places above 64 never do. No other refusal
+   comes. */
+uint64_t yakepuhi_sheet_withdraw(uint8_t *sheet, size_t sheet_length, uint64_t place);
+
+/* Closes the gaps: the cases, in the order that they had, are at places 1, 2 and so on, and the room that the gaps took is behind them. Without
+   a gap, or without a case, it gives 0 too. 8 is its only refusal. */
+uint64_t yakepuhi_sheet_close(uint8_t *sheet, size_t sheet_length);
+
+/* Reads the case at a place: accepted, it writes the frame's 22 bytes at the start of the area and no others. From 2,048 zeros on they are the
+   bytes that were added. 8 for the sheet, then 18, vacant: the place holds no case, then 8 for an area
+   of fewer than 22 bytes. No other refusal comes, and the sheet is not written. */
+uint64_t yakepuhi_sheet_case(const uint8_t *sheet, size_t sheet_length, uint64_t place, uint8_t *area, size_t area_length);
 
 #ifdef __cplusplus
 }

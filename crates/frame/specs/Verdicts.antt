@@ -4,8 +4,6 @@ use mathlib.Core.List.{List, [], _∷_, _++_}
 use mathlib.Core.Option.{Option, none, some}
 use lib.Dec.{ltb}
 use Rattle.guidance.specs.declared.Case.{Case}
-use Rattle.guidance.specs.Distances.{farther, cube24}
-use Rattle.guidance.specs.Waves.{standardAir}
 use Rattle.frame.specs.declared.Refusal.{Refusal}
 use Rattle.frame.specs.declared.Refusal.the-variants.{Faulty, Beyond, Space}
 use Rattle.frame.specs.declared.Verdict.{Verdict}
@@ -13,7 +11,7 @@ use Rattle.frame.specs.declared.Verdict.the-variants.{Accepted, Refused}
 use Rattle.hexadecimals.specs.Digits.{bytesOf}
 use Rattle.fields.specs.Bytes.{fieldsOf}
 use Rattle.refusals.specs.Order.{Test, _when_, firstOf, held}
-use Rattle.frame.specs.Tests.{frameTests, lineTests}
+use Rattle.frame.specs.Tests.{frameTests, lineTests, beyond}
 
 -- the bytes of an answer frame
 abbrev pub answerLength : ℕ
@@ -21,7 +19,7 @@ answerLength = 77
 
 -- tests 7 and 8
 unfoldable pub lastTests : Case → (room : ℕ) → List (Test Refusal)
-lastTests c room = (Beyond when farther cube24 standardAir c) ∷ (Space when ltb room answerLength) ∷ []
+lastTests c room = (Beyond when beyond c) ∷ (Space when ltb room answerLength) ∷ []
 
 -- the first test that applies refuses the case; a case to which none applies is accepted
 abbrev pub verdictBy : Option Refusal → Case → Verdict

@@ -4,6 +4,7 @@ ghost use Rattle.guidance.specs.CloudWords.{Heated};
 ghost use Rattle.refusals.specs.Faults.{filled};
 ghost use Rattle.limits.specs.Checks.{HeatedIfSound};
 ghost use Rattle.frame.specs.Refusals.{number, code, word};
+ghost use Rattle.frame.specs.Tests.{beyond};
 ghost use Rattle.frame.specs.Verdicts.{frameVerdict, lineVerdict};
 ghost use Rattle.frame.specs.Checks.{frameChecked, lineChecked, placed, judged};
 use guidance::Case;
@@ -84,13 +85,21 @@ pub fn check_line(line: &[u8]) -> Checked
     }
 }
 
+// Test 7, for a case that passed tests 1 to 6.
+pub fn is_beyond(c: Case) -> bool
+    requires { ⌜ Heated c ⌝ }
+    ensures { λ r. ⌜ r ≡ beyond c ⌝ }
+{
+    let cloud = guidance::cloud_of(c);
+    guidance::is_beyond(c, cloud, guidance::STANDARD_AIR)
+}
+
 // Tests 7 and 8.
 fn place(c: Case, room: usize) -> Verdict
     requires { ⌜ Heated c ⌝ }
     ensures { λ r. ⌜ r ≡ placed c room ⌝ }
 {
-    let cloud = guidance::cloud_of(c);
-    if guidance::is_beyond(c, cloud, guidance::STANDARD_AIR) {
+    if is_beyond(c) {
         return Verdict::Refused(Refusal::Beyond);
     }
     if room < ANSWER {

@@ -1,4 +1,4 @@
-// The entries for C and other languages: a case answered into a lent area, its overpressure or its impulse alone, the ring of a threshold, the rules that gave its figures, and the old form's lines.
+// The entries for C and other languages: a case answered into a lent area, its overpressure or its impulse alone, the ring of a threshold, the rules that gave its figures, the old form's lines, and a study sheet.
 ghost use lib.ListN.{length};
 ghost use Rattle.frame.specs.Verdicts.{frameVerdict, lineVerdict};
 ghost use Rattle.linked.specs.Codes.{Entered, FigureAnswered};
@@ -13,6 +13,7 @@ use layout::Ends;
 pub mod old_lines;
 pub mod reasons;
 pub mod rings;
+pub mod sheets;
 
 // A case given as a frame's bytes.
 #[no_mangle]

@@ -1,6 +1,5 @@
 -- `frame::place` meets its contract: tests 7 and 8 in their order. Assumes nothing.
 use mathlib.Core.Path.{sym, _∙_}
-use native.Mathlib.Omega.{arith}
 use borrow.Author.Tests.{lt-ltb, le-ltb}
 use Rattle.refusals.specs.Order.{firstOf}
 use Rattle.frame.specs.Verdicts.{lastTests}
@@ -8,16 +7,8 @@ use borrow.Author.Needs.{needs}
 use Rattle.frame.proofs.place.Statement.{statement}
 use Rattle.frame.proofs.place.Tie as tie
 
-cloud-of-requires : tie.Need-cloud-of-requires
-cloud-of-requires c κs = search needs
-
 is-beyond-requires : tie.Need-is-beyond-requires
-is-beyond-requires c κs =
-    record {
-      fields = c .before .pre .fields;
-      cloud = c .cloud-of .ensures;
-      pressure = record { least = omega arith; most = omega arith };
-    }
+is-beyond-requires c κs = search needs
 
 returns : tie.Need-returns
 unfolding firstOf lastTests
@@ -36,4 +27,4 @@ returns-3 c =
     simp (near, le-ltb _ _ (c .if2 .left))
 
 pub place-spec : {M : Type 1} → statement M
-place-spec = tie.close (tie.spec cloud-of-requires is-beyond-requires returns returns-2 returns-3)
+place-spec = tie.close (tie.spec is-beyond-requires returns returns-2 returns-3)

@@ -1,7 +1,9 @@
 -- So no function for C returns 4: each returns 0 or a refusal's number. Assumes nothing.
 use Prim.Native.Nat.{ℕ}
-use mathlib.Core.Path.{_≡_, sym, _∙_}
-use mathlib.Core.List.{List}
+use mathlib.Core.Path.{_≡_, refl, sym, ap, _∙_}
+use mathlib.Core.Bool.{false}
+use mathlib.Core.List.{List, [], _∷_}
+use mathlib.Core.Option.{Option, none, some, Option·some-injective}
 use native.Mathlib.Omega.{arith}
 use lib.ListN.{length}
 use Rattle.exact.specs.Formula.{Formula}
@@ -22,11 +24,20 @@ use Rattle.from_old.specs.declared.Verdict.the-variants as old-line
 use Rattle.from_old.specs.Refusals as old-lines
 use Rattle.from_old.specs.Tests.{lineVerdict}
 use Rattle.to_old.specs.Tests as old-tests
+use Rattle.refusals.specs.Order.{Test, _when_, firstOf}
+use Rattle.refusals.specs.laws.Order.{orElse, first-held, applies, absent}
+use Rattle.fields.specs.Bytes.{fieldsOf}
+use Rattle.frame.specs.Tests.{frameTests}
+use Rattle.sheet.specs.declared.Refusal as of-adding
+use Rattle.sheet.specs.Refusals as sheets
+use Rattle.sheet.specs.Tests.{full, ownTests}
+use Rattle.sheet_bytes.specs.Packing.{short, lent}
+use Rattle.lent_sheet.specs.Calls as lent-calls
 use Rattle.linked.specs.Codes.{Entered, FigureAnswered}
 use Rattle.linked.specs.Rings.{Given, Answered}
 use Rattle.linked.specs.OldLines.{CameIn, WentBack}
 use Rattle.linked.specs.Reasons as reasons
-use Rattle.numbering.specs.Entries.Refused.{answer, ring, writing, oldLine}
+use Rattle.numbering.specs.Entries.Refused.{answer, ring, writing, oldLine, adding}
 use Rattle.numbering.specs.laws.Retired.{retired}
 
 code-retired : (v : Verdict) → code v ≡ 4 → ⊥
@@ -71,3 +82,38 @@ went-back-not-4 {frame} {before} e h = go (old-tests.frameVerdict frame (length 
     go : (v : verdicts.Verdict) → writings.code v ≡ 4 → ⊥
     go (written.Accepted c) = λ z. omega arith
     go (written.Refused r) = retired (writing r)
+
+-- a sheet: no test of its calls has the number 4
+
+at-4 : (o : Option ℕ) → lent-calls.code o ≡ 4 → o ≡ some 4
+at-4 none h = absurd (omega arith)
+at-4 (some n) h = ap {B = Option ℕ} some h
+
+never : (ts : List (Test ℕ)) → applies (λ (n : ℕ). n) 4 ts ≡ false → firstOf ts ≡ some 4 → ⊥
+never ts a h = absent (λ (n : ℕ). n) 4 ts a h
+
+tests-not-4 : (c : lent-calls.Change) (s : List ℕ) → firstOf (lent-calls.tests c s) ≡ some 4 → ⊥
+unfolding lent-calls.tests
+tests-not-4 (lent-calls.add frame) s h = go (firstOf own) (sym (first-held sheets.number own last) ∙ h)
+  where
+    own : List (Test of-adding.Refusal)
+    own = ownTests (frameTests frame) (fieldsOf frame)
+
+    last : List (Test ℕ)
+    last = (8 when short s) ∷ (17 when full (lent s)) ∷ []
+
+    go : (o : Option of-adding.Refusal) → orElse sheets.number o (firstOf last) ≡ some 4 → ⊥
+    go none h = never last refl h
+    go (some r) h = retired (adding r) (Option·some-injective (sheets.number r) 4 h)
+tests-not-4 (lent-calls.withdraw k) s h = never _ refl h
+tests-not-4 lent-calls.close s h = never _ refl h
+
+pub sheet-not-4 : {c : lent-calls.Change} {before after : List ℕ} {n : ℕ} → lent-calls.Acts c before n after → n ≡ 4 → ⊥
+sheet-not-4 {c} {before} a h = tests-not-4 c before (at-4 _ (sym (a .returned) ∙ h))
+
+pub sheet-add-not-4 : {frame before after : List ℕ} {place n p : ℕ} → lent-calls.Adds frame before place n after p → n ≡ 4 → ⊥
+sheet-add-not-4 a h = sheet-not-4 (a .acts) h
+
+pub sheet-case-not-4 : {k n : ℕ} {s before after : List ℕ} → lent-calls.Shows k s before n after → n ≡ 4 → ⊥
+unfolding lent-calls.showTests
+sheet-case-not-4 {k} {n} {s} {before} a h = never _ refl (at-4 _ (sym (a .returned) ∙ h))

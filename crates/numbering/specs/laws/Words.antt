@@ -10,8 +10,10 @@ use Rattle.frame.specs.declared.Refusal.the-variants as answers
 use Rattle.ring.specs.declared.Refusal.the-variants as rings
 use Rattle.writable.specs.declared.Refusal.the-variants as writings
 use Rattle.from_old.specs.declared.Refusal.the-variants as old-lines
+use Rattle.sheet.specs.declared.Refusal.the-variants as sheets
+use Rattle.sheet.specs.declared.Vacancy.the-variants.{Vacant}
 use Rattle.numbering.specs.Entries.{Refused, number, word}
-use Rattle.numbering.specs.Entries.Refused.{answer, ring, writing, oldLine}
+use Rattle.numbering.specs.Entries.Refused.{answer, ring, writing, oldLine, adding, place}
 
 -- the words by their numbers from 0 on; an accepted case has none, and 4 has none any more
 abbrev pub words : List (List ℕ)
@@ -33,6 +35,8 @@ words =
     ∷ faults.word Surroundings
     ∷ word (oldLine old-lines.Tag)
     ∷ word (oldLine old-lines.Double)
+    ∷ word (adding sheets.Full)
+    ∷ word (place Vacant)
     ∷ []
 
 fault-listed : (f : Fault) → faults.word f ≡ getD words (faults.number f) []
@@ -59,6 +63,10 @@ listed (oldLine (old-lines.Unwritten (writings.Faulty f))) = fault-listed f
 listed (oldLine (old-lines.Unwritten writings.Space)) = refl
 listed (oldLine old-lines.Tag) = refl
 listed (oldLine old-lines.Double) = refl
+listed (adding (sheets.Faulty f)) = fault-listed f
+listed (adding sheets.Beyond) = refl
+listed (adding sheets.Full) = refl
+listed (place Vacant) = refl
 
 pub one-word : (r q : Refused) → number r ≡ number q → word r ≡ word q
 one-word r q e = listed r ∙ ap (λ (n : ℕ). getD words n []) e ∙ sym (listed q)

@@ -1,0 +1,197 @@
+// The test program of sheets: each operation of its input, a line, on a sheet by value and on a lent one.
+// Its stored output is that of a separate calculation on a plain list with holes.
+use guidance::Case;
+use libc::STDIN_FILENO;
+use libc::STDOUT_FILENO;
+use sheet::Found;
+use sheet::Placing;
+use sheet::Sheet;
+
+fn print(text: &[u8]) {
+    io::write_all(STDOUT_FILENO, text);
+}
+
+fn print_number(n: u64) {
+    io::print_decimal(STDOUT_FILENO, n);
+}
+
+fn print_refusal(n: u64) {
+    print(b"R");
+    print_number(n);
+}
+
+fn print_place(k: u64) {
+    print(b"@");
+    print_number(k);
+}
+
+// What is accepted shows its letter, a refusal its number.
+fn print_code(letter: &[u8], n: u64) {
+    if n == 0 {
+        print(letter);
+    } else {
+        print_refusal(n);
+    }
+}
+
+// A case as 44 digits.
+fn print_case(c: Case) {
+    let mut frame = [0u8; 22];
+    fields::write(&mut frame, c);
+    let mut digits = [0u8; 44];
+    hexadecimals::write(&frame, &mut digits);
+    print(&digits);
+}
+
+fn show_placing(p: Placing) {
+    match p {
+        Placing::At(k) => print_place(k as u64),
+        Placing::Refused(r) => print_refusal(sheet::number_of(r)),
+    }
+}
+
+fn show_found(letter: &[u8], f: Found) {
+    match f {
+        Found::Held(c) => {
+            print(letter);
+            print_case(c);
+        }
+        Found::Refused(v) => print_refusal(sheet::number_of_vacancy(v)),
+    }
+}
+
+// The case of a line, by value: from the line, or from the frame that it spells.
+fn add_line(s: Sheet, line: &[u8]) -> Sheet {
+    let added = s.add_line(line);
+    let answer = added.answer;
+    show_placing(answer);
+    added.sheet
+}
+
+fn add_frame(s: Sheet, line: &[u8]) -> Sheet {
+    let mut frame = [0u8; 22];
+    if hexadecimals::spell(line, &mut frame) {
+        let added = s.add_frame(&frame);
+        let answer = added.answer;
+        show_placing(answer);
+        added.sheet
+    } else {
+        print(b"-");
+        s
+    }
+}
+
+// The same on the lent sheet, from the frame.
+fn add_lent(lent: &mut [u8], line: &[u8]) {
+    let mut frame = [0u8; 22];
+    if hexadecimals::spell(line, &mut frame) {
+        let mut place = 0;
+        let n = lent_sheet::add(lent, &frame, &mut place);
+        if n == 0 {
+            print_place(place);
+        } else {
+            print_refusal(n);
+        }
+    } else {
+        print(b"-");
+    }
+}
+
+fn withdraw(s: Sheet, lent: &mut [u8], place: u64) -> Sheet {
+    let withdrawn = s.withdraw(place as usize);
+    let answer = withdrawn.answer;
+    show_found(b"W", answer);
+    print(b" ");
+    print_code(b"W", lent_sheet::withdraw(lent, place));
+    withdrawn.sheet
+}
+
+fn close(s: Sheet, lent: &mut [u8]) -> Sheet {
+    let closed = s.close();
+    print(b"C");
+    print_number(closed.answer as u64);
+    print(b" ");
+    print_code(b"C", lent_sheet::close(lent));
+    closed.sheet
+}
+
+fn show_lent(lent: &[u8], place: u64) {
+    let mut frame = [0u8; 22];
+    let n = lent_sheet::case_at(lent, place, &mut frame);
+    if n == 0 {
+        print(b"H");
+        print_case(fields::read(&frame));
+    } else {
+        print_refusal(n);
+    }
+}
+
+fn hold(s: Sheet, lent: &[u8], place: u64) {
+    show_found(b"H", s.case_at(place as usize));
+    print(b" ");
+    show_lent(lent, place);
+}
+
+fn start_anew(lent: &mut [u8]) -> Sheet {
+    let mut i = 0;
+    while i < lent.len() {
+        lent[i] = 0;
+        i += 1;
+    }
+    print(b"E E");
+    Sheet::empty()
+}
+
+fn add(s: Sheet, lent: &mut [u8], letter: u8, line: &[u8]) -> Sheet {
+    let t = if letter == b'F' {
+        add_frame(s, line)
+    } else {
+        add_line(s, line)
+    };
+    print(b" ");
+    add_lent(lent, line);
+    t
+}
+
+// One operation, by its letter.
+fn act(s: Sheet, lent: &mut [u8], text: &[u8]) -> Sheet {
+    let word = scan::next_word(text, 0);
+    let letter = word.lead;
+    let from = word.next;
+    if letter == b'W' {
+        return withdraw(s, lent, scan::next_word(text, from).value);
+    }
+    if letter == b'C' {
+        return close(s, lent);
+    }
+    if letter == b'E' {
+        return start_anew(lent);
+    }
+    if letter == b'H' {
+        hold(s, lent, scan::next_word(text, from).value);
+        return s;
+    }
+    add(s, lent, letter, &text[from..])
+}
+
+fn act_all(text: &[u8], lent: &mut [u8]) {
+    let mut s = Sheet::empty();
+    let mut number = 0;
+    let mut at = 0;
+    while at < text.len() {
+        let end = scan::line_end(text, at);
+        number = scan::sum(number, 1);
+        print_number(number);
+        print(b" ");
+        s = act(s, lent, &text[at..end]);
+        print(b"\n");
+        at = end + 1;
+    }
+}
+
+fn main() {
+    let mut space = io::large_buffer();
+    let n = io::read_full(STDIN_FILENO, &mut space);
+    let mut lent = [0u8; 2048];
+    act_all(&space[..n], &mut lent);
+}

@@ -1,0 +1,25 @@
+-- `lent_sheet::read` meets its contract. Assumes nothing.
+use mathlib.Core.Path.{sym, ap, _∙_}
+use Rattle.places.specs.Holes.{trim}
+use Rattle.places.specs.Places.{standsFor}
+use Rattle.sheet.specs.Operations.{listOf}
+use Rattle.sheet_bytes.specs.laws.Lent.{short-lent, enough-lent}
+use borrow.Author.Needs.{needs}
+use Rattle.lent_sheet.proofs.read.Statement.{statement}
+use Rattle.lent_sheet.proofs.read.Tie as tie
+
+empty-requires : tie.Need-empty-requires
+empty-requires c κs = search needs
+
+returns : tie.Need-returns
+returns c = c .empty .ensures ∙ sym (short-lent _ (c .before .if1 .taken))
+
+unpack-requires : tie.Need-unpack-requires
+unpack-requires c κs = search needs
+
+returns-2 : tie.Need-returns-2
+unfolding listOf standsFor
+returns-2 c = ap trim (c .unpack .ensures) ∙ sym (enough-lent _ (c .before .if1 .left))
+
+pub read-spec : {M : Type 1} → statement M
+read-spec = tie.close (tie.spec empty-requires returns unpack-requires returns-2)

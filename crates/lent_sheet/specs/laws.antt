@@ -1,0 +1,4 @@
+-- Laws of the definitions.
+pub mod Judged
+pub mod Sequences
+pub mod Back

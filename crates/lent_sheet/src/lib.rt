@@ -1,0 +1,103 @@
+// A study sheet that a caller lends as bytes, all zero when empty.
+// Each call unpacks the sheet, acts on it and packs it again; a refusal changes nothing that is lent.
+ghost use mathlib.Core.Path.{_≡_};
+ghost use Rattle.sheet_bytes.specs.Packing.{lent};
+ghost use Rattle.sheet.specs.Operations.{listOf};
+ghost use Rattle.lent_sheet.specs.Calls.{withdraw as withdrawing, close as closing, Adds, Acts, Shows};
+use sheet::Found;
+use sheet::Placing;
+use sheet::Sheet;
+use sheet_bytes::SIZE;
+
+// The bytes of a case frame.
+const FRAME: usize = 22;
+
+// Too few bytes are lent.
+const SPACE: u64 = 8;
+
+// The sheet that lent bytes stand for: the empty one where they are too few.
+fn read(s: &[u8]) -> Sheet
+    ensures { λ r. ⌜ listOf r ≡ lent (now (s .entry)) ⌝ }
+{
+    if s.len() < SIZE {
+        return Sheet::empty();
+    }
+    let places = sheet_bytes::unpack(s);
+    Sheet { places }
+}
+
+// The case of a frame's bytes, right after the last one.
+pub fn add(s: &mut [u8], frame: &[u8], place: &mut u64) -> u64
+    ensures { λ n. ⌜ Adds (now (frame .entry)) (now (s .entry)) (now (place .entry)) n (now (s .exit)) (now (place .exit)) ⌝ }
+{
+    let before = read(s);
+    let added = before.add_frame(frame);
+    let answer = added.answer;
+    let after = added.sheet;
+    match answer {
+        Placing::Refused(r) => sheet::number_of(r),
+        Placing::At(k) => {
+            if s.len() < SIZE {
+                return SPACE;
+            }
+            sheet_bytes::pack(s, after.places);
+            *place = k as u64;
+            0
+        }
+    }
+}
+
+// The case at a place goes and leaves a gap.
+pub fn withdraw(s: &mut [u8], place: u64) -> u64
+    ensures { λ n. ⌜ Acts (withdrawing place) (now (s .entry)) n (now (s .exit)) ⌝ }
+{
+    if s.len() < SIZE {
+        return SPACE;
+    }
+    let before = read(s);
+    let withdrawn = before.withdraw(place as usize);
+    let answer = withdrawn.answer;
+    let after = withdrawn.sheet;
+    match answer {
+        Found::Refused(v) => sheet::number_of_vacancy(v),
+        Found::Held(_) => {
+            sheet_bytes::pack(s, after.places);
+            0
+        }
+    }
+}
+
+// The gaps go.
+pub fn close(s: &mut [u8]) -> u64
+    ensures { λ n. ⌜ Acts closing (now (s .entry)) n (now (s .exit)) ⌝ }
+{
+    if s.len() < SIZE {
+        return SPACE;
+    }
+    let before = read(s);
+    let closed = before.close();
+    let after = closed.sheet;
+    sheet_bytes::pack(s, after.places);
+    0
+}
+
+// The frame of the case at a place, into the area's first 22 bytes.
+pub fn case_at(s: &[u8], place: u64, area: &mut [u8]) -> u64
+    ensures { λ n. ⌜ Shows place (now (s .entry)) (now (area .entry)) n (now (area .exit)) ⌝ }
+{
+    if s.len() < SIZE {
+        return SPACE;
+    }
+    let sheet = read(s);
+    let found = sheet.case_at(place as usize);
+    match found {
+        Found::Refused(v) => sheet::number_of_vacancy(v),
+        Found::Held(c) => {
+            if area.len() < FRAME {
+                return SPACE;
+            }
+            fields::write(area, c);
+            0
+        }
+    }
+}

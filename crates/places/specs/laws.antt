@@ -1,0 +1,7 @@
+-- Laws of the definitions.
+pub mod Trims
+pub mod Closings
+pub mod Contents
+pub mod Acts
+pub mod Kept
+pub mod Examples

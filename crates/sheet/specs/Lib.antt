@@ -1,0 +1,6 @@
+pub mod Refusals
+pub mod Tests
+pub mod Operations
+pub mod Runs
+pub mod Steps
+pub mod laws

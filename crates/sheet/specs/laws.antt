@@ -1,0 +1,6 @@
+-- Laws of the definitions.
+pub mod Entering
+pub mod Places
+pub mod Sequences
+pub mod Accepted
+pub mod Examples

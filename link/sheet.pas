@@ -1,0 +1,260 @@
+{ A study sheet from Free Pascal: the receptors of one yard are added, withdrawn and read and the gaps closed, with what is refused; then a sheet
+  is filled. Each step prints its verdict and what the sheet holds then, or what a refusal left as it was. }
+program sheet;
+
+{$mode objfpc}{$H+}
+{$linklib linked, static}
+{$linklib c}
+
+const
+  FrameBytes = 22;
+  SheetBytes = 2048;
+  Places = 64;
+  Whole = SheetBytes + 3;
+  Room = FrameBytes + 3;
+  Shown = 4;
+  Mark = $EE;
+  { 8 t of propane on the ground, 100 m away }
+  Propane: array[0..FrameBytes - 1] of Byte = ($11, 0, 1, 4, 0, $7A, $12, 0, 5, $78, 3, 2, 0, 0, $B5, $40, 0, 0, $27, $10, 0, $46);
+
+type
+  TFrame = array[0..FrameBytes - 1] of Byte;
+  TSheet = array[0..Whole - 1] of Byte;
+  TArea = array[0..Room - 1] of Byte;
+
+{ The promises of these are in yakepuhi.h. }
+function yakepuhi_overpressure(frame: PByte; frameLength: SizeUInt; lower, upper: PQWord): QWord; cdecl; external;
+function yakepuhi_sheet_add(sheet: PByte; sheetLength: SizeUInt; frame: PByte; frameLength: SizeUInt; place: PQWord): QWord; cdecl; external;
+function yakepuhi_sheet_withdraw(sheet: PByte; sheetLength: SizeUInt; place: QWord): QWord; cdecl; external;
+function yakepuhi_sheet_close(sheet: PByte; sheetLength: SizeUInt): QWord; cdecl; external;
+function yakepuhi_sheet_case(sheet: PByte; sheetLength: SizeUInt; place: QWord; area: PByte; areaLength: SizeUInt): QWord; cdecl; external;
+
+var
+  { the sheet, and marks behind it }
+  Study: TSheet;
+
+procedure EmptySheet;
+begin
+  FillChar(Study[0], SheetBytes, 0);
+  FillChar(Study[SheetBytes], Whole - SheetBytes, Mark);
+end;
+
+{ The refusals that come here. }
+function WordOf(refusal: QWord): string;
+begin
+  case refusal of
+    0: WordOf := 'accepted';
+    7: WordOf := 'beyond';
+    8: WordOf := 'space';
+    17: WordOf := 'full';
+    18: WordOf := 'vacant';
+    else WordOf := 'another refusal';
+  end;
+end;
+
+{ 8 t of propane on the ground, and a receptor so many metres away. }
+function CaseAt(metres: LongWord): TFrame;
+var
+  i: Integer;
+begin
+  Result := Propane;
+  for i := 0 to 3 do
+    Result[16 + i] := Byte(100 * metres shr (24 - 8 * i));
+end;
+
+function MetresOf(const frame: array of Byte): LongWord;
+begin
+  MetresOf := (LongWord(frame[16]) shl 24 or LongWord(frame[17]) shl 16 or LongWord(frame[18]) shl 8 or frame[19]) div 100;
+end;
+
+{ How many cases the sheet holds, and the first ones and the last with their places. }
+procedure PrintSheet;
+var
+  metres, at: array[0..Places - 1] of LongWord;
+  frame: TFrame;
+  place: LongWord;
+  i, held: Integer;
+begin
+  held := 0;
+  for place := 1 to Places do
+    if yakepuhi_sheet_case(@Study[0], Whole, place, @frame[0], SizeOf(frame)) = 0 then
+    begin
+      at[held] := place;
+      metres[held] := MetresOf(frame);
+      Inc(held);
+    end;
+  Write('  held          ', held, ' of ', Places);
+  for i := 0 to held - 1 do
+    if (i < Shown) or (i = held - 1) then
+    begin
+      if i = 0 then Write(': ') else Write(', ');
+      Write(metres[i], ' m at ', at[i]);
+    end;
+  WriteLn;
+end;
+
+function KeptMarks(const bytes: array of Byte; from: Integer): Integer;
+var
+  i: Integer;
+begin
+  Result := 0;
+  for i := from to High(bytes) do
+    if bytes[i] = Mark then Inc(Result);
+end;
+
+{ The verdict on a step; where fewer bytes are told than a sheet has, their number too. }
+procedure PrintVerdict(told: SizeUInt; refusal: QWord);
+begin
+  if told < SheetBytes then Write(', a sheet of ', told, ' bytes');
+  WriteLn(': ', WordOf(refusal));
+end;
+
+{ What the sheet holds, or how many of its bytes and of the marks behind it a refusal left as they were. }
+procedure PrintAfter(refusal: QWord; const before: TSheet);
+var
+  i, kept: Integer;
+begin
+  if refusal = 0 then
+  begin
+    PrintSheet;
+    Exit;
+  end;
+  kept := 0;
+  for i := 0 to High(before) do
+    if Study[i] = before[i] then Inc(kept);
+  WriteLn('  ', kept, ' bytes of the sheet kept');
+end;
+
+{ Adds the case of a receptor. }
+procedure Add(const name: string; metres: LongWord; told: SizeUInt);
+var
+  before: TSheet;
+  frame: TFrame;
+  place, refusal: QWord;
+begin
+  before := Study;
+  frame := CaseAt(metres);
+  place := Mark;
+  refusal := yakepuhi_sheet_add(@Study[0], told, @frame[0], SizeOf(frame), @place);
+  Write('add ', name, ', ', metres, ' m away');
+  PrintVerdict(told, refusal);
+  if refusal = 0 then
+    WriteLn('  place         ', place)
+  else if place = Mark then
+    WriteLn('  the number kept')
+  else
+    WriteLn('  the number lost');
+  PrintAfter(refusal, before);
+end;
+
+procedure Withdraw(place: QWord; told: SizeUInt);
+var
+  before: TSheet;
+  refusal: QWord;
+begin
+  before := Study;
+  refusal := yakepuhi_sheet_withdraw(@Study[0], told, place);
+  Write('withdraw place ', place);
+  PrintVerdict(told, refusal);
+  PrintAfter(refusal, before);
+end;
+
+procedure CloseGaps(told: SizeUInt);
+var
+  before: TSheet;
+  refusal: QWord;
+begin
+  before := Study;
+  refusal := yakepuhi_sheet_close(@Study[0], told);
+  Write('close the gaps');
+  PrintVerdict(told, refusal);
+  PrintAfter(refusal, before);
+end;
+
+{ Reads the case at a place, and asks for the overpressure of its frame. }
+procedure ReadCase(place: QWord; told, space: SizeUInt);
+var
+  area: TArea;
+  lower, upper, refusal: QWord;
+  first: Integer;
+begin
+  FillChar(area, SizeOf(area), Mark);
+  refusal := yakepuhi_sheet_case(@Study[0], told, place, @area[0], space);
+  Write('read place ', place, ' into ', space, ' bytes');
+  PrintVerdict(told, refusal);
+  first := 0;
+  if refusal = 0 then first := FrameBytes;
+  lower := 0;
+  upper := 0;
+  if (refusal = 0) and (yakepuhi_overpressure(@area[0], FrameBytes, @lower, @upper) = 0) then
+    WriteLn('  overpressure  ', lower, ' to ', upper, ' Pa, ', MetresOf(area), ' m away');
+  WriteLn('  ', KeptMarks(area, first), ' bytes of the area kept');
+end;
+
+{ The receptors of a yard, as in docs/sheets.md. }
+procedure ShowYard;
+begin
+  Add('the pump house', 100, Whole);
+  Add('the control room', 150, Whole);
+  Add('the gate', 300, Whole);
+  Withdraw(2, Whole);
+  Add('the workshop', 220, Whole);
+  ReadCase(2, Whole, Room);
+  Withdraw(2, Whole);
+  Withdraw(4, Whole);
+  Add('the workshop again', 250, Whole);
+  CloseGaps(Whole);
+  ReadCase(2, Whole, Room);
+  Add('the town', 10000, Whole);
+end;
+
+{ The same sheet asked for what it refuses: 7 comes before 8, and 18 between the sheet's 8 and the area's. }
+procedure ShowRefusals;
+begin
+  Add('the gate', 300, SheetBytes - 1);
+  Add('the town', 10000, SheetBytes - 1);
+  Withdraw(0, Whole);
+  Withdraw(Places + 1, Whole);
+  Withdraw(1, SheetBytes - 1);
+  CloseGaps(SheetBytes - 1);
+  ReadCase(1, SheetBytes - 1, Room);
+  ReadCase(4, Whole, FrameBytes - 1);
+  ReadCase(1, Whole, FrameBytes - 1);
+  ReadCase(1, SheetBytes, FrameBytes);
+end;
+
+{ A sheet that is filled with a receptor every 10 m; a gap makes no room until it is closed. }
+procedure ShowFull;
+var
+  frame: TFrame;
+  place: QWord;
+  n: LongWord;
+  right: Integer;
+begin
+  right := 0;
+  for n := 1 to Places do
+  begin
+    frame := CaseAt(10 * n);
+    place := Mark;
+    if (yakepuhi_sheet_add(@Study[0], Whole, @frame[0], SizeOf(frame), @place) = 0) and (place = n) then Inc(right);
+  end;
+  WriteLn('add ', Places, ' receptors, 10 m apart: ', right, ' at the next place');
+  PrintSheet;
+  Add('one more', 650, Whole);
+  Add('the town', 10000, Whole);
+  Withdraw(1, Whole);
+  Add('one more', 650, Whole);
+  CloseGaps(Whole);
+  Add('one more', 650, Whole);
+  Add('another', 660, Whole);
+end;
+
+begin
+  EmptySheet;
+  ShowYard;
+  ShowRefusals;
+  WriteLn(KeptMarks(Study, SheetBytes), ' bytes behind the sheet kept');
+  EmptySheet;
+  ShowFull;
+  WriteLn(KeptMarks(Study, SheetBytes), ' bytes behind the sheet kept');
+end.
