@@ -126,10 +126,11 @@ fn show_lent(lent: &[u8], place: u64) {
     }
 }
 
-fn hold(s: Sheet, lent: &[u8], place: u64) {
+fn hold(s: Sheet, lent: &[u8], place: u64) -> Sheet {
     show_found(b"H", s.case_at(place as usize));
     print(b" ");
     show_lent(lent, place);
+    s
 }
 
 fn start_anew(lent: &mut [u8]) -> Sheet {
@@ -158,20 +159,14 @@ fn act(s: Sheet, lent: &mut [u8], text: &[u8]) -> Sheet {
     let word = scan::next_word(text, 0);
     let letter = word.lead;
     let from = word.next;
-    if letter == b'W' {
-        return withdraw(s, lent, scan::next_word(text, from).value);
+    let place = scan::next_word(text, from).value;
+    match letter {
+        b'W' => withdraw(s, lent, place),
+        b'C' => close(s, lent),
+        b'E' => start_anew(lent),
+        b'H' => hold(s, lent, place),
+        _ => add(s, lent, letter, &text[from..]),
     }
-    if letter == b'C' {
-        return close(s, lent);
-    }
-    if letter == b'E' {
-        return start_anew(lent);
-    }
-    if letter == b'H' {
-        hold(s, lent, scan::next_word(text, from).value);
-        return s;
-    }
-    add(s, lent, letter, &text[from..])
 }
 
 fn act_all(text: &[u8], lent: &mut [u8]) {

@@ -9,6 +9,8 @@ use lib.Seq.{sets}
 use Rattle.guidance.specs.declared.Case.{Case}
 use Rattle.refusals.specs.Order.{Test, _when_, firstOf, held}
 use Rattle.fields.specs.Bytes.{fieldsOf, frameBytes}
+use Rattle.frame.specs.declared.Refusal.the-variants.{Space}
+use Rattle.frame.specs.Refusals as answers
 use Rattle.frame.specs.Tests.{frameTests}
 use Rattle.places.specs.Holes.{vacant, at}
 use Rattle.sheet.specs.declared.Refusal.the-variants.{Full}
@@ -19,9 +21,9 @@ use Rattle.sheet.specs.Operations.{Operation, act}
 use Rattle.sheet.specs.Operations as sheet
 use Rattle.sheet_bytes.specs.Packing.{sheetBytes, short, lent}
 
--- too few bytes are lent
+-- 8: too few bytes are lent
 abbrev pub space : ℕ
-space = 8
+space = answers.number Space
 
 -- the calls that change a sheet, and what each does to the list that it stands for
 pub data Change : Type 0 where
