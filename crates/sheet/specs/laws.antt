@@ -1,5 +1,6 @@
 -- Laws of the definitions.
 pub mod Entering
+pub mod Kept
 pub mod Places
 pub mod Sequences
 pub mod Accepted

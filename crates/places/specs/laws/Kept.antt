@@ -1,11 +1,11 @@
 -- What the operations keep: a plain list stays one, and what holds of each case. Assumes nothing.
 use Prim.Native.Nat.{ℕ, zero, suc}
-use mathlib.Core.Path.{_≡_, subst}
+use mathlib.Core.Path.{_≡_}
 use mathlib.Core.List.{List, [], _∷_}
-use mathlib.Core.Option.{Option, none, some, Option·none-ne-some, Option·some-injective}
+use mathlib.Core.Option.{Option, none, some}
 use native.Mathlib.Omega.{arith}
 use lib.ListN.{length, length-append, length-set, set}
-use Rattle.places.specs.Holes.{ahead, trim, at, added, withdrawn, closed, Plain, Each}
+use Rattle.places.specs.Holes.{ahead, trim, added, withdrawn, closed, Plain, Each}
 use Rattle.places.specs.laws.Trims.{trim-trim, trim-append-case, length-trim}
 use Rattle.places.specs.laws.Closings.{closed-length, trim-closed}
 
@@ -64,16 +64,6 @@ module _ {A : Type 0} (P : A → Type 0) where
   each-closed [] h = h
   each-closed (none ∷ xs) h = each-closed xs h
   each-closed (some a ∷ xs) h = (h .0, each-closed xs (h .1))
-
-  -- so of what a place holds
-  pub each-at : (xs : List (Option A)) (k : ℕ) (a : A) → at xs k ≡ some a → Each P xs → P a
-  unfolding Each at
-  each-at xs zero a e h = absurd (Option·none-ne-some a e)
-  each-at [] (suc i) a e h = absurd (Option·none-ne-some a e)
-  each-at (none ∷ xs) (suc zero) a e h = absurd (Option·none-ne-some a e)
-  each-at (none ∷ xs) (suc (suc i)) a e h = each-at xs (suc i) a e h
-  each-at (some b ∷ xs) (suc zero) a e h = subst P (Option·some-injective b a e) (h .0)
-  each-at (some b ∷ xs) (suc (suc i)) a e h = each-at xs (suc i) a e (h .1)
 
 pub each-weaker : {A : Type 0} {P Q : A → Type 0} → ((a : A) → P a → Q a) → (xs : List (Option A)) → Each P xs → Each Q xs
 unfolding Each

@@ -11,7 +11,7 @@ use Rattle.guidance.specs.declared.Case.{Case}
 use Rattle.hexadecimals.specs.Digits.{bytesOf}
 use Rattle.refusals.specs.declared.Fault.{Fault}
 use Rattle.refusals.specs.Order.{Test, _when_, firstOf, held}
-use Rattle.refusals.specs.laws.Order.{orElse, first-held}
+use Rattle.refusals.specs.laws.Order.{orElse, first-held, neither-found, passed}
 use Rattle.fields.specs.Bytes.{fieldsOf}
 use Rattle.limits.specs.declared.Checked.{Checked}
 use Rattle.limits.specs.Checks.{checkedBy}
@@ -35,6 +35,14 @@ unfolding ownTests addTests
 first-added ts c xs =
     ap firstOf (append-assoc (held Faulty ts) ((Beyond when beyond c) ∷ []) ((Full when full xs) ∷ []))
     ∙ first-held Faulty ts ((Beyond when beyond c) ∷ (Full when full xs) ∷ [])
+
+-- no test applies: each passed
+pub all-passed : (ts : List (Test Fault)) (c : Case) (xs : List (Option Case)) → firstOf (addTests ts c xs) ≡ none
+    → (firstOf ts ≡ none) × (beyond c ≡ false) × (full xs ≡ false)
+all-passed ts c xs h =
+    let n = neither-found Faulty (firstOf ts) (last c xs) (sym (first-added ts c xs) ∙ h) in
+    let p = passed _ (n .1) in
+    (n .0, p .0, p .1 .0)
 
 entered-by : (ts : List (Test Fault)) (c : Case) (xs : List (Option Case)) → adding (firstOf (addTests ts c xs)) xs c ≡ entered (checkedBy (firstOf ts) c) xs
 unfolding adding

@@ -1,27 +1,23 @@
 -- From the empty sheet, any sequence of operations acts as on a plain list with holes, answers included. Assumes nothing.
-use Prim.Native.Nat.{ℕ}
-use mathlib.Core.Path.{_≡_, refl, sym, ap, _∙_}
-use mathlib.Core.List.{List, [], _∷_}
-use mathlib.Core.Option.{Option, none, some}
+use mathlib.Core.Path.{_≡_, refl, ap, _∙_}
+use mathlib.Core.List.{List, []}
+use mathlib.Core.Option.{Option}
 use lib.ListN.{length}
 use borrow.Author.Tests.{eqb-false}
 use Rattle.guidance.specs.declared.Case.{Case}
 use Rattle.hexadecimals.specs.Digits.{bytesOf}
 use Rattle.refusals.specs.declared.Fault.{Fault}
 use Rattle.refusals.specs.Order.{Test, firstOf}
-use Rattle.refusals.specs.laws.Order.{neither-found, passed}
 use Rattle.fields.specs.Bytes.{fieldsOf}
 use Rattle.frame.specs.Tests.{frameTests, lineTests}
 use Rattle.places.specs.Holes.{at, Plain}
 use Rattle.places.specs.laws.Kept.{plain-added, plain-withdrawn, plain-closed}
 use Rattle.sheet.specs.declared.Sheet.{Sheet}
-use Rattle.sheet.specs.declared.Refusal.{Refusal}
-use Rattle.sheet.specs.declared.Refusal.the-variants.{Faulty}
 use Rattle.sheet.specs.Tests.{addTests}
-use Rattle.sheet.specs.Operations.{Operation, addFrame, addLine, withdraw, close, caseAt, Told, adding, without, act, listOf}
+use Rattle.sheet.specs.Operations.{Operation, addFrame, addLine, withdraw, close, caseAt, Told, adding, act, listOf}
 use Rattle.sheet.specs.Runs.{Run, ends, goes, after, answered}
-use Rattle.sheet.specs.Steps.{last}
-use Rattle.sheet.specs.laws.Entering.{first-added}
+use Rattle.sheet.specs.laws.Entering.{all-passed}
+use Rattle.sheet.specs.laws.Kept.{kept-adding, kept-without, kept-after}
 
 -- any sheet goes as the list that it stands for
 pub run-list : {s : Sheet} {operations : List Operation} {answers : List Told} {t : Sheet} → Run s operations answers t → listOf t ≡ after (listOf s) operations
@@ -42,31 +38,19 @@ pub from-empty : {s : Sheet} {operations : List Operation} {answers : List Told}
 from-empty {operations = operations} e run =
     (run-list run ∙ ap (λ (xs : List (Option Case)). after xs operations) e, run-answers run ∙ ap (λ (xs : List (Option Case)). answered xs operations) e)
 
--- no test applies: the last place is not the 64th
-has-room : (ts : List (Test Fault)) (c : Case) (xs : List (Option Case)) → firstOf (addTests ts c xs) ≡ none → length xs ≡ 64 → ⊥
-has-room ts c xs h =
-    let n = neither-found Faulty (firstOf ts) (last c xs) (sym (first-added ts c xs) ∙ h) in
-    eqb-false (length xs) 64 (passed _ (n .1) .1 .0)
-
 -- a plain list stays one
-plain-adding : (o : Option Refusal) (xs : List (Option Case)) (c : Case) → (o ≡ none → length xs ≡ 64 → ⊥) → Plain xs → Plain (adding o xs c .list)
-unfolding adding
-plain-adding none xs c h p = plain-added xs c (h refl) p
-plain-adding (some r) xs c h p = p
 
-plain-without : (x : Option Case) (xs : List (Option Case)) (k : ℕ) → Plain xs → Plain (without x xs k)
-plain-without none xs k p = p
-plain-without (some c) xs k p = plain-withdrawn xs k p
+plain-adding : (ts : List (Test Fault)) (xs : List (Option Case)) (c : Case) → Plain xs → Plain (adding (firstOf (addTests ts c xs)) xs c .list)
+plain-adding ts xs c p =
+    kept-adding (λ (ys : List (Option Case)). Plain ys) _ xs c (λ e. plain-added xs c (eqb-false (length xs) 64 (all-passed ts c xs e .2)) p) p
 
 pub plain-act : (xs : List (Option Case)) (o : Operation) → Plain xs → Plain (act xs o .list)
 unfolding act
-plain-act xs (addFrame frame) p = plain-adding _ xs (fieldsOf frame) (has-room (frameTests frame) (fieldsOf frame) xs) p
-plain-act xs (addLine line) p = plain-adding _ xs (fieldsOf (bytesOf line)) (has-room (lineTests line) (fieldsOf (bytesOf line)) xs) p
-plain-act xs (withdraw k) p = plain-without (at xs k) xs k p
+plain-act xs (addFrame frame) p = plain-adding (frameTests frame) xs (fieldsOf frame) p
+plain-act xs (addLine line) p = plain-adding (lineTests line) xs (fieldsOf (bytesOf line)) p
+plain-act xs (withdraw k) p = kept-without (λ (ys : List (Option Case)). Plain ys) (at xs k) xs k (plain-withdrawn xs k p) p
 plain-act xs close p = plain-closed xs p
 plain-act xs (caseAt k) p = p
 
 pub plain-after : (xs : List (Option Case)) (operations : List Operation) → Plain xs → Plain (after xs operations)
-unfolding after
-plain-after xs [] p = p
-plain-after xs (o ∷ operations) p = plain-after (act xs o .list) operations (plain-act xs o p)
+plain-after = kept-after (λ (ys : List (Option Case)). Plain ys) plain-act
