@@ -1,23 +1,39 @@
 /* Times the study sheet, one call an operation: proved, and in plain C on fields in memory, on lent bytes at the place at hand, and on lent bytes
-   that each call unpacks and packs whole, as the proved one does. `sheets ROUNDS` reads the lines of its cases from standard input. */
+   that each call unpacks and packs whole, as the proved one does. Plain C keeps the upper ends of plain doubles. `sheets ROUNDS` reads the lines of
+   its cases from standard input. */
+#include "plain_double.h"
 #include "turns.h"
 #include "yakepuhi.h"
 
+#include <math.h>
 #include <stdio.h>
 #include <stdlib.h>
 #include <string.h>
 
-enum { SHEET = YAKEPUHI_SHEET, PLACES = YAKEPUHI_PLACES, PLACE = SHEET / PLACES, HALF = PLACES / 2, KINDS = 4, TASKS = 4, MARK = 0xEE };
+enum { SHEET = YAKEPUHI_SHEET, PLACES = YAKEPUHI_PLACES, PLACE = SHEET / PLACES, HALF = PLACES / 2, KINDS = 4, TASKS = 5, MARK = 0xEE };
+
+/* The upper end, 4 bytes, lies in a place behind the tag and the frame. */
+enum { END = 1 + FRAME };
 
 static uint8_t (*frames)[FRAME];
 static size_t cases;
 static uint64_t sum; /* what the calls gave, so that none is left out */
 
-/* Tests 1 to 7, which the peers make alike. */
-static uint64_t refusal_of(const uint8_t *frame, size_t length)
+/* Tests 1 to 7, which the peers make alike, and the upper end of an accepted case. */
+static uint64_t refusal_of(const uint8_t *frame, size_t length, struct cloud *c) { return length != FRAME ? 1 : (uint64_t)decide_frame(frame, c); }
+static uint32_t end_of(const struct cloud *c) { return (uint32_t)ceil(overpressure(c)); }
+
+struct totals {
+    uint64_t cases, greatest, place; /* the first place that has the greatest end, 0 for none */
+};
+
+/* One case more, behind the others. */
+static void include(struct totals *t, uint64_t place, uint32_t end)
 {
-    struct cloud c;
-    return length != FRAME ? 1 : (uint64_t)decide_frame(frame, &c);
+    if (t->cases++ == 0 || t->greatest < end) {
+        t->greatest = end;
+        t->place = place;
+    }
 }
 
 /* ---- a sheet of fields in memory */
@@ -30,11 +46,13 @@ struct fields {
 
 struct place {
     int held;
+    uint32_t end;
     struct fields fields;
 };
 
 struct memory {
     uint64_t last; /* the last place that holds a case, 0 for none */
+    struct totals totals;
     struct place places[PLACES];
 };
 
@@ -73,14 +91,25 @@ static void put_fields(uint8_t *to, const struct fields *f)
     put_number(to + 20, 2, f->body);
 }
 
+static void count_again(struct memory *m)
+{
+    m->totals = (struct totals){ 0, 0, 0 };
+    for (uint64_t i = 0; i < m->last; i++)
+        if (m->places[i].held)
+            include(&m->totals, i + 1, m->places[i].end);
+}
+
 static uint64_t memory_add(void *sheet, const uint8_t *frame, size_t length, uint64_t *place)
 {
     struct memory *m = sheet;
-    uint64_t refusal = refusal_of(frame, length);
+    struct cloud c;
+    uint64_t refusal = refusal_of(frame, length, &c);
     if (refusal != 0 || m->last == PLACES)
         return refusal != 0 ? refusal : 17;
-    m->places[m->last] = (struct place){ 1, fields_of(frame) };
+    uint32_t end = end_of(&c);
+    m->places[m->last] = (struct place){ 1, end, fields_of(frame) };
     *place = ++m->last;
+    include(&m->totals, m->last, end);
     return 0;
 }
 
@@ -92,6 +121,10 @@ static uint64_t memory_withdraw(void *sheet, uint64_t place)
     m->places[place - 1].held = 0;
     while (m->last > 0 && !m->places[m->last - 1].held)
         m->last--;
+    if (place == m->totals.place)
+        count_again(m);
+    else
+        m->totals.cases--;
     return 0;
 }
 
@@ -100,8 +133,11 @@ static uint64_t memory_close(void *sheet)
     struct memory *m = sheet;
     uint64_t held = 0;
     for (uint64_t i = 0; i < m->last; i++)
-        if (m->places[i].held)
+        if (m->places[i].held) {
+            if (m->totals.place == i + 1)
+                m->totals.place = held + 1;
             m->places[held++] = m->places[i];
+        }
     for (uint64_t i = held; i < m->last; i++)
         m->places[i].held = 0;
     m->last = held;
@@ -114,6 +150,12 @@ static uint64_t memory_read(const void *sheet, uint64_t place, uint8_t *area)
     if (place < 1 || place > m->last || !m->places[place - 1].held)
         return 18;
     put_fields(area, &m->places[place - 1].fields);
+    return 0;
+}
+
+static uint64_t memory_totals(const void *sheet, struct totals *t)
+{
+    *t = ((const struct memory *)sheet)->totals;
     return 0;
 }
 
@@ -130,11 +172,13 @@ static uint64_t last_of(const uint8_t *s)
 static uint64_t bytes_add(void *sheet, const uint8_t *frame, size_t length, uint64_t *place)
 {
     uint8_t *s = sheet;
-    uint64_t refusal = refusal_of(frame, length), last = last_of(s);
+    struct cloud c;
+    uint64_t refusal = refusal_of(frame, length, &c), last = last_of(s);
     if (refusal != 0 || last == PLACES)
         return refusal != 0 ? refusal : 17;
     s[PLACE * last] = 1;
     memcpy(s + PLACE * last + 1, frame, FRAME);
+    put_number(s + PLACE * last + END, 4, end_of(&c));
     *place = last + 1;
     return 0;
 }
@@ -169,6 +213,16 @@ static uint64_t bytes_read(const void *sheet, uint64_t place, uint8_t *area)
     return 0;
 }
 
+static uint64_t bytes_totals(const void *sheet, struct totals *t)
+{
+    const uint8_t *s = sheet;
+    *t = (struct totals){ 0, 0, 0 };
+    for (uint64_t i = 0; i < PLACES; i++)
+        if (s[PLACE * i] != 0)
+            include(t, i + 1, number_at(s + PLACE * i + END, 4));
+    return 0;
+}
+
 /* ---- a sheet as lent bytes that are fields in memory during a call */
 
 static void unpack(const uint8_t *s, struct memory *m)
@@ -176,9 +230,12 @@ static void unpack(const uint8_t *s, struct memory *m)
     m->last = last_of(s);
     for (int i = 0; i < PLACES; i++) {
         m->places[i].held = s[PLACE * i] != 0;
-        if (m->places[i].held)
+        if (m->places[i].held) {
             m->places[i].fields = fields_of(s + PLACE * i + 1);
+            m->places[i].end = number_at(s + PLACE * i + END, 4);
+        }
     }
+    m->totals = (struct totals){ 0, 0, 0 }; /* counted where they are asked for */
 }
 
 static void pack(const struct memory *m, uint8_t *s)
@@ -188,6 +245,7 @@ static void pack(const struct memory *m, uint8_t *s)
         if (m->places[i].held) {
             s[PLACE * i] = 1;
             put_fields(s + PLACE * i + 1, &m->places[i].fields);
+            put_number(s + PLACE * i + END, 4, m->places[i].end);
         }
 }
 
@@ -227,6 +285,14 @@ static uint64_t packed_read(const void *sheet, uint64_t place, uint8_t *area)
     return memory_read(&m, place, area);
 }
 
+static uint64_t packed_totals(const void *sheet, struct totals *t)
+{
+    struct memory m;
+    unpack(sheet, &m);
+    count_again(&m);
+    return memory_totals(&m, t);
+}
+
 /* ---- the proved sheet */
 
 static uint64_t proved_add(void *sheet, const uint8_t *frame, size_t length, uint64_t *place)
@@ -237,6 +303,11 @@ static uint64_t proved_add(void *sheet, const uint8_t *frame, size_t length, uin
 static uint64_t proved_withdraw(void *sheet, uint64_t place) { return yakepuhi_sheet_withdraw(sheet, SHEET, place); }
 static uint64_t proved_close(void *sheet) { return yakepuhi_sheet_close(sheet, SHEET); }
 static uint64_t proved_read(const void *sheet, uint64_t place, uint8_t *area) { return yakepuhi_sheet_case(sheet, SHEET, place, area, FRAME); }
+
+static uint64_t proved_totals(const void *sheet, struct totals *t)
+{
+    return yakepuhi_sheet_totals(sheet, SHEET, &t->cases, &t->greatest, &t->place);
+}
 
 /* A sheet of one kind. All zero it is empty. */
 union sheet {
@@ -250,12 +321,13 @@ static const struct kind {
     uint64_t (*withdraw)(void *sheet, uint64_t place);
     uint64_t (*close)(void *sheet);
     uint64_t (*read)(const void *sheet, uint64_t place, uint8_t *area);
+    uint64_t (*totals)(const void *sheet, struct totals *t);
     size_t size;
 } kinds[KINDS] = {
-    { "proved", proved_add, proved_withdraw, proved_close, proved_read, SHEET },
-    { "plain C, in memory", memory_add, memory_withdraw, memory_close, memory_read, sizeof(struct memory) },
-    { "plain C, lent bytes", bytes_add, bytes_withdraw, bytes_close, bytes_read, SHEET },
-    { "plain C, unpacked", packed_add, packed_withdraw, packed_close, packed_read, SHEET },
+    { "proved", proved_add, proved_withdraw, proved_close, proved_read, proved_totals, SHEET },
+    { "plain C, in memory", memory_add, memory_withdraw, memory_close, memory_read, memory_totals, sizeof(struct memory) },
+    { "plain C, lent bytes", bytes_add, bytes_withdraw, bytes_close, bytes_read, bytes_totals, SHEET },
+    { "plain C, unpacked", packed_add, packed_withdraw, packed_close, packed_read, packed_totals, SHEET },
 };
 
 /* ---- answers before times */
@@ -307,7 +379,49 @@ static struct outcome outcome_of(const struct kind *k, union sheet *s, const str
     return r;
 }
 
-/* An operation for each case, from the empty sheet on: the same answers and the same sheet after each. */
+/* The bytes of a sheet of each kind. */
+static void show_bytes(union sheet sheets[KINDS], uint8_t shown[KINDS][SHEET])
+{
+    for (int k = 0; k < KINDS; k++)
+        if (k == 1)
+            pack(&sheets[k].memory, shown[k]);
+        else
+            memcpy(shown[k], sheets[k].bytes, SHEET);
+}
+
+/* The proved end is above the exact value by the width rule at most, that of plain doubles by less than 1, or it is one off at a whole number. */
+static int near(uint64_t proved, uint64_t plain) { return plain <= proved + 1 && 10000 * proved <= 20000 + 10001 * plain; }
+
+/* The proved bytes and those of plain C: the same but for the ends of cases, which are near. */
+static int alike(const uint8_t *proved, const uint8_t *plain)
+{
+    for (int i = 0; i < PLACES; i++, proved += PLACE, plain += PLACE) {
+        uint32_t end = number_at(proved + END, 4), other = number_at(plain + END, 4);
+        if (memcmp(proved, plain, END) != 0 || memcmp(proved + END + 4, plain + END + 4, PLACE - END - 4) != 0)
+            return 0;
+        if (proved[0] == 0 ? end != other : !near(end, other))
+            return 0;
+    }
+    return 1;
+}
+
+/* The proved sheet like those of plain C, and these equal; the totals of each, the proved ones too, as plain C scans them from the bytes. */
+static int sheets_agree(union sheet sheets[KINDS])
+{
+    uint8_t shown[KINDS][SHEET];
+    struct totals t, scanned;
+    int same = 1;
+    show_bytes(sheets, shown);
+    for (int k = 0; k < KINDS; k++) {
+        same &= k == 0 ? alike(shown[0], shown[1]) : memcmp(shown[k], shown[1], SHEET) == 0;
+        same &= kinds[k].totals(&sheets[k], &t) == 0;
+        bytes_totals(shown[k], &scanned);
+        same &= memcmp(&t, &scanned, sizeof t) == 0;
+    }
+    return same;
+}
+
+/* An operation for each case, from the empty sheet on: the same answers, and sheets and totals that agree at first and after each. */
 static void compare(void)
 {
     static union sheet sheets[KINDS];
@@ -315,27 +429,24 @@ static void compare(void)
     for (size_t i = 0; i < cases; i++) {
         struct operation o = operation_at(i);
         struct outcome r[KINDS];
-        uint8_t packed[SHEET];
-        int same = 1;
+        int same = i > 0 || sheets_agree(sheets);
         for (int k = 0; k < KINDS; k++) {
             r[k] = outcome_of(&kinds[k], &sheets[k], &o);
             same &= r[k].number == r[0].number && r[k].place == r[0].place && memcmp(r[k].area, r[0].area, FRAME) == 0;
-            if (k == 1)
-                pack(&sheets[k].memory, packed);
-            same &= memcmp(k == 1 ? packed : sheets[k].bytes, sheets[0].bytes, SHEET) == 0;
         }
-        if (!same) {
-            printf("operation %zu: %llu, place %llu or the sheet stands\n", i + 1, (unsigned long long)r[0].number, (unsigned long long)r[0].place);
+        if (!same || !sheets_agree(sheets)) {
+            printf("operation %zu: %llu, place %llu, the sheet or its totals stand alone\n", i + 1, (unsigned long long)r[0].number,
+                   (unsigned long long)r[0].place);
             exit(1);
         }
         given[r[0].number]++;
     }
-    printf("%zu operations, all answers and sheets equal: %zu accepted, %zu times refusal 7, %zu times 17, %zu times 18\n", cases, given[0],
+    printf("%zu operations, all answers, sheets and totals agree: %zu accepted, %zu times refusal 7, %zu times 17, %zu times 18\n", cases, given[0],
            given[7], given[17], given[18]);
 }
 
 /* ---- times: a case is added and withdrawn again behind the first half; added until the sheet is full, which then is the half again; the gaps of
-   every second place are closed, a copy of 2,048 bytes or more with it; a case of the first half is read */
+   every second place are closed, a copy of 2,048 bytes or more with it; a case of the first half is read; the totals of both sheets in turn */
 
 /* Sheets of each kind with cases at the first half of the places, and at every second place. */
 static union sheet half[KINDS], gapped[KINDS];
@@ -389,6 +500,13 @@ static void reads(int k)
         sum += kinds[k].read(&half[k], 1 + i % HALF, area) + area[7] + area[21];
 }
 
+static void totals(int k)
+{
+    struct totals t = { 0, 0, 0 };
+    for (size_t i = 0; i < cases; i++)
+        sum += kinds[k].totals(i % 2 == 0 ? &half[k] : &gapped[k], &t) + t.cases + t.greatest + t.place;
+}
+
 /* A run of each task by each kind. */
 #define RUNS(task) \
     static void task##_proved(void) { task(0); } \
@@ -399,19 +517,22 @@ RUNS(pairs)
 RUNS(adds)
 RUNS(closes)
 RUNS(reads)
+RUNS(totals)
 
 int main(int count, char **words)
 {
     static void (*const runs[TASKS * KINDS])(void) = {
         pairs_proved,  pairs_memory,  pairs_bytes,  pairs_packed,  adds_proved,  adds_memory,  adds_bytes,  adds_packed,
         closes_proved, closes_memory, closes_bytes, closes_packed, reads_proved, reads_memory, reads_bytes, reads_packed,
+        totals_proved, totals_memory, totals_bytes, totals_packed,
     };
-    static const char *const tasks[TASKS] = { "add and withdraw", "add", "close", "read" };
+    static const char *const tasks[TASKS] = { "add and withdraw", "add", "close", "read", "totals" };
     int rounds = count > 1 ? atoi(words[1]) : 9;
     double medians[TASKS * KINDS];
     cases = read_frames(&frames);
     if (cases == 0 || rounds < 1)
         return 2;
+    prepare(53);
     compare();
     make_sheets();
     time_in_turn(runs, TASKS * KINDS, rounds, medians);

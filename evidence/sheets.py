@@ -1,15 +1,17 @@
 #!/usr/bin/env python3
-"""A separate model of the study sheet (request 7), a plain list with holes, written from the papers; its bytes from docs/sheets.md.
+"""A separate model of the study sheet and its totals (requests 7 and 8), a plain list with holes, written from the papers; its bytes from docs/sheets.md.
 
   sheets.py lines FILE                      the record of each operation of FILE, from the empty sheet on
   sheets.py vectors DIRECTORY               the files stdin and stdout of the program known_sheets, the same at every run
-  sheets.py against ARCHIVE COUNT [SEED]    COUNT random operations through the four entries of ARCHIVE, every byte that is lent checked after each
+  sheets.py against ARCHIVE COUNT [SEED]    COUNT random operations through the four entries of ARCHIVE, every byte that is lent checked after each,
+                                            and the totals through the fifth
 
 An operation is a line: A or F and the characters of a case, which is added from the line (A) or from the frame that it spells (F); W and a
-place, which is withdrawn; C, which closes the gaps; H and a place, whose case is read; E, with which an empty sheet begins. A record is the
+place, which is withdrawn; C, which closes the gaps; H and a place, whose case is read; T, the totals; E, an empty sheet again. A record is the
 line's number and two answers, of the sheet by value and of the lent one: @ and the place of the added case; W and the digits of the withdrawn
 one; C and the number of cases; H and the digits of the case that is held; E; or R and the refusal's number. The lent W and C stand without what
-follows, and - stands where there is no frame to add.
+follows, and - stands where there is no frame to add. T asks for the totals: the number of cases, @, the place, : and the greatest upper end. That
+is open between two numbers, which `lines` prints; where two follow the T, = stands for an end between them, ! for another.
 `against` prints a line for every fault, and last the counts; its exit status is 0 where there is no fault. FILE may be - for standard input.
 """
 import collections
@@ -20,14 +22,20 @@ import subprocess
 import sys
 import tempfile
 
-from reference import (CUBES, ORDER, PROPANE, Q, SPOILED, Source, changed, contents, decide, decide_frame, fields, frame_line, lines_of, random_case,
-                       random_line, seeded)
+from mpmath import mp
+
+from reference import (CUBES, ORDER, P0, PROPANE, Q, SPOILED, Source, changed, contents, decide, decide_frame, fields, frame_line, lines_of,
+                       random_case, random_line, reduced, seeded)
 from rings import spells
 
 PLACES, FRAME = 64, 22
 
 
-# The rules of the request. A sheet is a list: place k is its element k - 1, None is a gap, and the last element is none.
+# The rules of the requests. A sheet is a list: place k is its element k - 1, None is a gap, and the last element is none. An upper end that is
+# not known is None.
+
+Held = collections.namedtuple('Held', 'frame upper', defaults=(None,))
+
 
 def holds(sheet, place):
     return 1 <= place <= len(sheet) and sheet[place - 1] is not None
@@ -40,10 +48,10 @@ def trimmed(sheet):
     return sheet
 
 
-def add(sheet, refusal, frame):
+def add(sheet, refusal, held):
     """The number of the refusal, 0 for none, and the list after; the tests of the case come first."""
     number = refusal or (17 if len(sheet) == PLACES else 0)
-    return number, sheet if number else sheet + [frame]
+    return number, sheet if number else sheet + [held]
 
 
 def withdraw(sheet, place):
@@ -54,7 +62,14 @@ def withdraw(sheet, place):
 
 
 def close(sheet):
-    return [frame for frame in sheet if frame is not None]
+    return [held for held in sheet if held is not None]
+
+
+def totals(sheet):
+    """The number of cases, the greatest upper end, and the first place that has it; 0 for none."""
+    greatest = max((held.upper for held in close(sheet)), default=0)
+    place = next((place for place, held in enumerate(sheet, start=1) if held is not None and held.upper == greatest), 0)
+    return len(close(sheet)), greatest, place
 
 
 def refusal_of_line(line):
@@ -70,6 +85,30 @@ def refusal_of_frame(frame):
     return verdict if isinstance(verdict, int) else 0
 
 
+@functools.lru_cache(1 << 16)
+def exact(frame):
+    """The overpressure of an accepted frame."""
+    return reduced(*decide_frame(frame))[0] * P0
+
+
+def bounds(frame):
+    """Between which an upper end lies: not below the value, and no farther from a lower end than the width rule has it."""
+    value = exact(frame)
+    return int(mp.ceil(value)), (20000 + 10001 * int(mp.floor(value))) // 10000
+
+
+def open_totals(sheet):
+    """The number of cases, the place of the greatest upper end, and its bounds, where they do not depend on what is open."""
+    if not sheet:
+        return 0, 0, 0, 0
+    greatest = max((held.frame for held in close(sheet)), key=exact)
+    least, most = bounds(greatest)
+    # cases of one value are taken to have one end, as they have where it is worked by the same steps; of others no end may reach the greatest's
+    assert all(exact(held.frame) == exact(greatest) or bounds(held.frame)[1] < least for held in close(sheet)), 'two ends in either order'
+    place = next(place for place, held in enumerate(sheet, start=1) if held is not None and exact(held.frame) == exact(greatest))
+    return len(close(sheet)), place, least, most
+
+
 # The records of known_sheets.
 
 def digits(frame):
@@ -81,9 +120,19 @@ def added(sheet, kind, text):
     if not spells(text):
         return b'- -' if kind == b'F' else b'R%d -' % refusal_of_line(text), sheet
     frame = bytes.fromhex(text.decode())
-    number, after = add(sheet, refusal_of_frame(frame), frame)
+    number, after = add(sheet, refusal_of_frame(frame), Held(frame))
     answer = b'R%d' % number if number else b'@%d' % len(after)
     return answer + b' ' + answer, after
+
+
+def judged(ends, asked):
+    """What is said of an end that lies between two numbers, where two are asked for: = between them, ! outside; else the end, or what it lies between."""
+    if not asked or asked[1] == 0:
+        return b'0' if ends == [0, 0] else b'%d-%d' % tuple(ends)
+    if asked[1] < ends[0] or ends[1] < asked[0]:
+        return b'!'
+    assert asked[0] <= ends[0] and ends[1] <= asked[1], 'an end in part outside'
+    return b'='
 
 
 def answered(sheet, operation):
@@ -93,6 +142,10 @@ def answered(sheet, operation):
         return added(sheet, kind, rest)
     if kind == b'E':
         return b'E E', []
+    if kind == b'T':
+        cases, place, *ends = open_totals(sheet)
+        answer = b'T%d@%d:%s' % (cases, place, judged(ends, [*map(int, rest.split())]))
+        return answer + b' ' + answer, sheet
     if kind == b'C':
         after = close(sheet)
         return b'C%d C' % len(after), after
@@ -100,7 +153,7 @@ def answered(sheet, operation):
     number, after = withdraw(sheet, int(rest))
     if number:
         return b'R%d R%d' % (number, number), sheet
-    case = digits(sheet[int(rest) - 1])
+    case = digits(sheet[int(rest) - 1].frame)
     return (b'W%s W' % case, after) if kind == b'W' else (b'H%s H%s' % (case, case), sheet)
 
 
@@ -116,35 +169,39 @@ def show(name):
     return 0
 
 
-# The lent sheet. Its bytes, from its start: 32 for a place, a tag, a frame and 9 zeros, all zero for a gap. Some memory lies before it and past it.
+# The lent sheet. Its bytes, from its start: 32 for a place, a tag, a frame, an upper end and 5 zeros, all zero for a gap. Some memory lies before it
+# and past it.
 
-BEFORE, SHEET, PAST, CONTENT = 32, 2048, 256, 32
+BEFORE, SHEET, PAST, CONTENT, END = 32, 2048, 256, 32, 4
 AREA = 64
 MARK = b'\x5f'  # each byte of an area before a call
 
-# A call of one of the four entries, or the memory (S) in which the calls after it have their sheet. The lengths are those that are told.
+# A call of one of the first four entries, or the memory (S) in which the calls after it have their sheet. The lengths are those that are told.
 Call = collections.namedtuple('Call', 'kind memory sheet place frame length area', defaults=(b'', SHEET, 0, b'', FRAME, FRAME))
-# What a call gives: its number, the place told, None for none, the bytes of the sheet's memory and of the area, and whether the frame has its own.
-Outcome = collections.namedtuple('Outcome', 'number place memory area frame')
+# What a call gives: its number, the place told, None for none, the bytes of the sheet's memory and of the area, whether the frame has its own, and
+# what the call of the totals after it gives: its number and the three that are told.
+Outcome = collections.namedtuple('Outcome', 'number place memory area frame totals')
 
 
 def listed(memory):
     """The list that any bytes stand for: a tag of 0 is a gap, any other a case."""
-    starts = range(BEFORE, BEFORE + SHEET, CONTENT)
-    return trimmed([memory[at + 1:at + 1 + FRAME] if memory[at] else None for at in starts])
+    starts, end = range(BEFORE, BEFORE + SHEET, CONTENT), 1 + FRAME
+    held = lambda place: Held(place[1:end], int.from_bytes(place[end:end + END], 'big'))
+    return trimmed([held(memory[at:at + CONTENT]) if memory[at] else None for at in starts])
 
 
 def laid(memory, sheet):
     """The memory with the bytes of a list in the place of its sheet's."""
-    several = [bytes(CONTENT) if frame is None else b'\x01' + frame + bytes(CONTENT - 1 - FRAME) for frame in sheet]
+    place = lambda held: b'' if held is None else b'\x01' + held.frame + held.upper.to_bytes(END, 'big')
+    several = [place(held).ljust(CONTENT, b'\x00') for held in sheet]
     return memory[:BEFORE] + b''.join(several).ljust(SHEET, b'\x00') + memory[BEFORE + SHEET:]
 
 
-def applied(sheet, call):
-    """The number that a call returns, the list after, and the case that it reads; None for none."""
+def applied(sheet, call, end=None):
+    """The number that a call returns, the list after, and the case that it reads; None for none. The end is that of a case that is added."""
     short = 8 if call.sheet < SHEET else 0
     if call.kind == 'A':
-        return (*add(sheet, refusal_of_frame(call.frame[:call.length]) or short, call.frame), None)
+        return (*add(sheet, refusal_of_frame(call.frame[:call.length]) or short, Held(call.frame, end)), None)
     if short:
         return short, sheet, None
     if call.kind == 'W':
@@ -152,16 +209,17 @@ def applied(sheet, call):
     if call.kind == 'C':
         return 0, close(sheet), None
     number = 18 if not holds(sheet, call.place) else 8 if call.area < FRAME else 0
-    return number, sheet, None if number else sheet[call.place - 1]
+    return number, sheet, None if number else sheet[call.place - 1].frame
 
 
-def due(sheet, memory, call):
+def due(sheet, memory, call, end):
     """What a call has to give, and the list after."""
-    number, after, case = applied(sheet, call)
+    number, after, case = applied(sheet, call, end)
     place = len(after) if call.kind == 'A' and number == 0 else None
     if number == 0 and call.kind != 'H':
         memory = laid(memory, after)
-    return Outcome(number, place, memory, (case or b'').ljust(AREA, MARK), True), after
+    told = (8, None, None, None) if call.sheet < SHEET else (0, *totals(after))
+    return Outcome(number, place, memory, (case or b'').ljust(AREA, MARK), True, told), after
 
 
 # Holding the library's calls against the list.
@@ -198,10 +256,15 @@ def patched(before, word):
     return before[:int(at)] + bytes.fromhex(bytes_there) + before[int(at) + len(bytes_there) // 2:]
 
 
+def told(word):
+    """A number that is lent; None where it has its mark."""
+    return None if word == '-' else int(word)
+
+
 def outcome(memory, record):
-    """What a record says."""
-    _, number, place, sheet, area, frame = record.split(' ')
-    return Outcome(int(number), None if place == '-' else int(place), patched(memory, sheet), patched(MARK * AREA, area), frame == '-')
+    """What a record says, and the upper end of the frame's overpressure; None for none."""
+    _, number, place, sheet, area, frame, *totalled, end = record.split(' ')
+    return Outcome(int(number), told(place), patched(memory, sheet), patched(MARK * AREA, area), frame == '-', tuple(map(told, totalled))), told(end)
 
 
 def differing(expected, stands):
@@ -224,7 +287,17 @@ def faults(expected, stands):
         found.append('byte %d of the area has to be %d, %d stands' % differing(expected.area, stands.area))
     if not stands.frame:
         found.append('the frame is another')
+    if stands.totals != expected.totals:
+        found.append('the totals have to be %s, %s stand' % (expected.totals, stands.totals))
     return found
+
+
+def end_faults(call, number, end):
+    """What is wrong with the upper end of a case that is added, by its exact value."""
+    if call.kind != 'A' or number != 0:
+        return []
+    least, most = bounds(call.frame)
+    return [] if end is not None and least <= end <= most else ['the upper end has to be from %d to %d, %s stands' % (least, most, end)]
 
 
 class Tally:
@@ -239,6 +312,10 @@ class Tally:
         self.times['emptied'] += before != [] == after
         self.times['gaps closed'] += call.kind == 'C' and before != after
         self.times['17 with gaps'] += number == 17 and None in before
+        _, greatest, shown = totals(before)
+        self.times['the greatest withdrawn'] += call.kind == 'W' and number == 0 and call.place == shown
+        self.times['its place moved'] += call.kind == 'C' and number == 0 and totals(after)[2] != shown
+        self.times['two as great'] += any(held is not None and held.upper == greatest for held in before[shown:])
 
     def fault(self, number, call, sheet, text):
         self.faults += 1
@@ -249,7 +326,8 @@ class Tally:
             accepted, refused = self.numbers[kind, 0], [(n, self.numbers[kind, n]) for n in NUMBERS[kind]]
             print('%s: %d calls, %d accepted, refused %s' % (
                 name, accepted + sum(n for _, n in refused), accepted, ' '.join('%d:%d' % both for both in refused)))
-        times = ', '.join('%d times %s' % (self.times[what], what) for what in ('full', 'emptied', 'gaps closed', '17 with gaps'))
+        times = ', '.join('%d times %s' % (self.times[what], what) for what in (
+            'full', 'emptied', 'gaps closed', '17 with gaps', 'the greatest withdrawn', 'its place moved', 'two as great'))
         print('%d calls on %d empty sheets and %d of any bytes: %s; %d faults' % (
             sum(self.numbers.values()), self.sheets['empty'], self.sheets['any'], times, self.faults))
 
@@ -264,13 +342,13 @@ def check(calls, answers):
             continue
         number += 1
         record = next(left, None)
-        expected, after = due(sheet, memory, call)
-        tally.note(call, expected.number, sheet, after)
         if record is None or record.partition(' ')[0] != str(number):
             tally.fault(number, call, sheet, 'it did not return' if record is None else 'the record is %s' % record)
             break
-        stands = outcome(memory, record)
-        found = faults(expected, stands)
+        stands, end = outcome(memory, record)
+        expected, after = due(sheet, memory, call, 0 if end is None else end)
+        tally.note(call, expected.number, sheet, after)
+        found = end_faults(call, expected.number, end) + faults(expected, stands)
         for text in found:
             tally.fault(number, call, sheet, text)
         memory, sheet = stands.memory, listed(stands.memory) if found else after
@@ -317,7 +395,7 @@ def random_characters(source, sheet):
     """The line of a case: mostly accepted; else one that the sheet holds already, a spoiled one, any bytes, Rx at 24 or a cm past it, or any line."""
     kind = source.below(100)
     if kind < 5 and sheet:
-        return digits(source.choice(close(sheet)))
+        return digits(source.choice(close(sheet)).frame)
     if kind < 14:
         return frame_line(changed(random_case(source), **source.choice(SPOILED)[1]))
     if kind < 16:
@@ -370,7 +448,8 @@ def random_memory(source):
             memory[at] = source.choice(SPOTS)
     elif kind > 1:
         held, last = source.choice((50, 90, 100)), source.choice((source.below(PLACES), PLACES))
-        sheet = [random_bytes(source, FRAME) if source.chance(held) else None for _ in range(last)]
+        ends = [source.below(2**32) >> source.below(33) for _ in range(3)]
+        sheet = [Held(random_bytes(source, FRAME), source.choice(ends)) if source.chance(held) else None for _ in range(last)]
         memory[:] = laid(memory, trimmed(sheet if kind == 2 else []))
         for _ in range(1 + source.below(40)):
             at = BEFORE + source.below(SHEET)
@@ -428,6 +507,16 @@ STORIES = (
     'E A10 A20 A30 A40 A50 A60 A70 A80 W1 W3 W5 W7 A90 C H1 H2 H3 H4 H5 H6 W1 W3 C H1 H2 H3 H4 W2 W3 W1 A10',
     # one case at several places, from a line and from a frame
     'E A10 F10 A10 W1 H2 H3 F10 W3 C H1 H2 H3 A20 H3',
+    # the totals, at distances of which each has its own overpressure: the greatest comes last and goes first, and the other way about
+    'E A400 A300 A200 A100 W4 W3 W2 W1 A100 A200 A300 A400 W1 W2 W3 W4',
+    # several have the greatest: the first place of these is shown, as each goes and as the gaps are closed
+    'E A300 A100 A200 A100 A100 W2 A100 W4 C W2 W3 W1 C A100 W4 W1 W1',
+    # closing moves the place that is shown, a gap behind it does not
+    'E A500 A400 A300 A200 A100 A600 W6 C W1 W3 C A600 W2 C W3 C W2 C W1 C',
+    # one that goes unseen, then the one that is shown; a refusal changes no total
+    'E A200 A500 A100 W2 W2 W9 A400 W3 W1 A11000 W4 W4',
+    # an overtaking and a withdrawal of it by turns, with a gap ahead
+    'E A900 A800 W1 A700 W3 A600 A500 W3 W4 A700 C W1 W2 A800 A600 W3 W1 W2',
 )
 
 
@@ -516,10 +605,25 @@ def mixed(source, count):
         yield operation
 
 
+def asked():
+    """Totals with the greatest end below, between and above the two numbers, so that the judgement itself is tried."""
+    yield from in_full('E A100')
+    yield from (b'T 1 2', b'T 1 999999999', b'T 999999998 999999999', b'T 1 29032', b'T 29037 999999999')
+
+
+def totalled(operations):
+    """After each operation the totals, with the bounds of the greatest upper end."""
+    sheet = []
+    for operation in operations:
+        sheet = answered(sheet, operation)[1]
+        yield operation
+        yield b'T %d %d' % open_totals(sheet)[2:]
+
+
 def vectors(directory):
     source = Source(1)
     stories = itertools.chain.from_iterable(map(in_full, STORIES))
-    operations = [*stories, *full(source), *emptying(source), *refusals(source), *no_places(), *mixed(source, 200)]
+    operations = [*totalled([*stories, *full(source), *emptying(source), *refusals(source), *no_places(), *asked(), *mixed(source, 200)])]
     for name, lines in (('stdin', (operation + b'\n' for operation in operations)), ('stdout', records(operations))):
         with open(os.path.join(directory, name), 'wb') as file:
             file.writelines(lines)

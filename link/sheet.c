@@ -1,5 +1,6 @@
-/* A study sheet from C: the receptors of one yard are added, withdrawn and read and the gaps closed, with what is refused; then a sheet is filled.
-   Each step prints its verdict and what the sheet holds then, or what a refusal left as it was. */
+/* A study sheet from C: the receptors of one yard are added, withdrawn and read and the gaps closed, with what is refused; then a sheet is filled,
+   and a third one has its totals followed. Each step prints its verdict and what the sheet holds then, with its totals, or what a refusal left as
+   it was. */
 #include "yakepuhi.h"
 
 #include <inttypes.h>
@@ -44,17 +45,40 @@ static uint32_t metres_of(const uint8_t *frame)
     return ((uint32_t)frame[16] << 24 | (uint32_t)frame[17] << 16 | (uint32_t)frame[18] << 8 | frame[19]) / 100;
 }
 
-/* How many cases the sheet holds, and the first ones and the last with their places. */
+static uint64_t upper_of(const uint8_t *frame)
+{
+    uint64_t lower = 0, upper = 0;
+    yakepuhi_overpressure(frame, YAKEPUHI_FRAME, &lower, &upper);
+    return upper;
+}
+
+/* The totals, as a title block has them; a line more where the greatest is not that of the frames read back. */
+static void print_totals(uint64_t of_frames)
+{
+    uint64_t count = MARK, greatest = MARK, place = MARK;
+    uint64_t refusal = yakepuhi_sheet_totals(sheet, sizeof sheet, &count, &greatest, &place);
+    printf("  totals        %" PRIu64 " %s, greatest %" PRIu64 " Pa at ", count, count == 1 ? "case" : "cases", greatest);
+    if (place == 0)
+        printf("no place\n");
+    else
+        printf("place %" PRIu64 "\n", place);
+    if (refusal != 0 || greatest != of_frames)
+        printf("  not the       %" PRIu64 " Pa of the frames\n", of_frames);
+}
+
+/* How many cases the sheet holds, the first ones and the last with their places, and the totals. */
 static void print_sheet(void)
 {
     uint32_t metres[YAKEPUHI_PLACES];
-    uint64_t places[YAKEPUHI_PLACES];
+    uint64_t places[YAKEPUHI_PLACES], greatest = 0;
     int held = 0;
     for (uint64_t place = 1; place <= YAKEPUHI_PLACES; place++) {
         uint8_t frame[YAKEPUHI_FRAME];
         if (yakepuhi_sheet_case(sheet, sizeof sheet, place, frame, sizeof frame) == 0) {
             places[held] = place;
             metres[held++] = metres_of(frame);
+            uint64_t upper = upper_of(frame);
+            greatest = upper > greatest ? upper : greatest;
         }
     }
     printf("  held          %d of %d", held, YAKEPUHI_PLACES);
@@ -62,6 +86,7 @@ static void print_sheet(void)
         if (i < SHOWN || i == held - 1)
             printf("%s%" PRIu32 " m at %" PRIu64, i == 0 ? ": " : ", ", metres[i], places[i]);
     printf("\n");
+    print_totals(greatest);
 }
 
 static int kept_marks(const uint8_t *bytes, size_t from, size_t size)
@@ -80,17 +105,22 @@ static void print_verdict(size_t told, uint64_t refusal)
     printf(": %s\n", word_of(refusal));
 }
 
-/* What the sheet holds, or how many of its bytes and of the marks behind it a refusal left as they were. */
-static void print_after(uint64_t refusal, const uint8_t before[SHEET])
+/* How many of the sheet's bytes and of the marks behind it are as they were. */
+static void print_kept(const uint8_t before[SHEET])
 {
     int kept = 0;
-    if (refusal == 0) {
-        print_sheet();
-        return;
-    }
     for (size_t i = 0; i < SHEET; i++)
         kept += sheet[i] == before[i];
     printf("  %d bytes of the sheet kept\n", kept);
+}
+
+/* What the sheet holds, or what a refusal left of it. */
+static void print_after(uint64_t refusal, const uint8_t before[SHEET])
+{
+    if (refusal == 0)
+        print_sheet();
+    else
+        print_kept(before);
 }
 
 /* Adds the case of a receptor. */
@@ -142,6 +172,22 @@ static void read_case(uint64_t place, size_t told, size_t room)
     if (refusal == 0 && yakepuhi_overpressure(area, YAKEPUHI_FRAME, &lower, &upper) == 0)
         printf("  overpressure  %" PRIu64 " to %" PRIu64 " Pa, %" PRIu32 " m away\n", lower, upper, metres_of(area));
     printf("  %d bytes of the area kept\n", kept_marks(area, refusal == 0 ? YAKEPUHI_FRAME : 0, sizeof area));
+}
+
+/* Asks for the totals, by which the sheet is not written either way. */
+static void totals(size_t told)
+{
+    uint8_t before[SHEET];
+    uint64_t count = MARK, greatest = MARK, place = MARK;
+    memcpy(before, sheet, sizeof sheet);
+    uint64_t refusal = yakepuhi_sheet_totals(sheet, told, &count, &greatest, &place);
+    printf("totals");
+    print_verdict(told, refusal);
+    if (refusal == 0)
+        print_sheet();
+    else
+        printf("  the three numbers %s\n", count == MARK && greatest == MARK && place == MARK ? "kept" : "lost");
+    print_kept(before);
 }
 
 /* The receptors of a yard, as in docs/sheets.md. */
@@ -197,6 +243,23 @@ static void show_full(void)
     add("another", 660, SHEET);
 }
 
+/* A sheet for a title block: of two equal figures the first place is shown, closing moves it, and when both are gone the next one is the greatest. */
+static void show_totals(void)
+{
+    totals(YAKEPUHI_SHEET);
+    add("the gate", 300, SHEET);
+    add("the pump house", 100, SHEET);
+    add("the boiler house", 100, SHEET);
+    add("the control room", 150, SHEET);
+    withdraw(1, SHEET);
+    close_gaps(SHEET);
+    withdraw(1, SHEET);
+    withdraw(2, SHEET);
+    totals(YAKEPUHI_SHEET - 1);
+    totals(YAKEPUHI_SHEET);
+    withdraw(3, SHEET);
+}
+
 int main(void)
 {
     empty_sheet();
@@ -205,6 +268,9 @@ int main(void)
     printf("%d bytes behind the sheet kept\n", kept_marks(sheet, YAKEPUHI_SHEET, SHEET));
     empty_sheet();
     show_full();
+    printf("%d bytes behind the sheet kept\n", kept_marks(sheet, YAKEPUHI_SHEET, SHEET));
+    empty_sheet();
+    show_totals();
     printf("%d bytes behind the sheet kept\n", kept_marks(sheet, YAKEPUHI_SHEET, SHEET));
     return 0;
 }

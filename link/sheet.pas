@@ -1,5 +1,6 @@
 { A study sheet from Free Pascal: the receptors of one yard are added, withdrawn and read and the gaps closed, with what is refused; then a sheet
-  is filled. Each step prints its verdict and what the sheet holds then, or what a refusal left as it was. }
+  is filled, and a third one has its totals followed. Each step prints its verdict and what the sheet holds then, with its totals, or what a
+  refusal left as it was. }
 program sheet;
 
 {$mode objfpc}{$H+}
@@ -28,6 +29,7 @@ function yakepuhi_sheet_add(sheet: PByte; sheetLength: SizeUInt; frame: PByte; f
 function yakepuhi_sheet_withdraw(sheet: PByte; sheetLength: SizeUInt; place: QWord): QWord; cdecl; external;
 function yakepuhi_sheet_close(sheet: PByte; sheetLength: SizeUInt): QWord; cdecl; external;
 function yakepuhi_sheet_case(sheet: PByte; sheetLength: SizeUInt; place: QWord; area: PByte; areaLength: SizeUInt): QWord; cdecl; external;
+function yakepuhi_sheet_totals(sheet: PByte; sheetLength: SizeUInt; count, greatest, place: PQWord): QWord; cdecl; external;
 
 var
   { the sheet, and marks behind it }
@@ -67,21 +69,52 @@ begin
   MetresOf := (LongWord(frame[16]) shl 24 or LongWord(frame[17]) shl 16 or LongWord(frame[18]) shl 8 or frame[19]) div 100;
 end;
 
-{ How many cases the sheet holds, and the first ones and the last with their places. }
+function UpperOf(const frame: TFrame): QWord;
+var
+  lower, upper: QWord;
+begin
+  lower := 0;
+  upper := 0;
+  yakepuhi_overpressure(@frame[0], FrameBytes, @lower, @upper);
+  UpperOf := upper;
+end;
+
+{ The totals, as a title block has them; a line more where the greatest is not that of the frames read back. }
+procedure PrintTotals(ofFrames: QWord);
+var
+  count, greatest, place, refusal: QWord;
+begin
+  count := Mark;
+  greatest := Mark;
+  place := Mark;
+  refusal := yakepuhi_sheet_totals(@Study[0], Whole, @count, @greatest, @place);
+  Write('  totals        ', count);
+  if count = 1 then Write(' case') else Write(' cases');
+  Write(', greatest ', greatest, ' Pa at ');
+  if place = 0 then WriteLn('no place') else WriteLn('place ', place);
+  if (refusal <> 0) or (greatest <> ofFrames) then
+    WriteLn('  not the       ', ofFrames, ' Pa of the frames');
+end;
+
+{ How many cases the sheet holds, the first ones and the last with their places, and the totals. }
 procedure PrintSheet;
 var
   metres, at: array[0..Places - 1] of LongWord;
   frame: TFrame;
   place: LongWord;
+  upper, greatest: QWord;
   i, held: Integer;
 begin
   held := 0;
+  greatest := 0;
   for place := 1 to Places do
     if yakepuhi_sheet_case(@Study[0], Whole, place, @frame[0], SizeOf(frame)) = 0 then
     begin
       at[held] := place;
       metres[held] := MetresOf(frame);
       Inc(held);
+      upper := UpperOf(frame);
+      if upper > greatest then greatest := upper;
     end;
   Write('  held          ', held, ' of ', Places);
   for i := 0 to held - 1 do
@@ -91,6 +124,7 @@ begin
       Write(metres[i], ' m at ', at[i]);
     end;
   WriteLn;
+  PrintTotals(greatest);
 end;
 
 function KeptMarks(const bytes: array of Byte; from: Integer): Integer;
@@ -109,20 +143,21 @@ begin
   WriteLn(': ', WordOf(refusal));
 end;
 
-{ What the sheet holds, or how many of its bytes and of the marks behind it a refusal left as they were. }
-procedure PrintAfter(refusal: QWord; const before: TSheet);
+{ How many of the sheet's bytes and of the marks behind it are as they were. }
+procedure PrintKept(const before: TSheet);
 var
   i, kept: Integer;
 begin
-  if refusal = 0 then
-  begin
-    PrintSheet;
-    Exit;
-  end;
   kept := 0;
   for i := 0 to High(before) do
     if Study[i] = before[i] then Inc(kept);
   WriteLn('  ', kept, ' bytes of the sheet kept');
+end;
+
+{ What the sheet holds, or what a refusal left of it. }
+procedure PrintAfter(refusal: QWord; const before: TSheet);
+begin
+  if refusal = 0 then PrintSheet else PrintKept(before);
 end;
 
 { Adds the case of a receptor. }
@@ -191,6 +226,28 @@ begin
   WriteLn('  ', KeptMarks(area, first), ' bytes of the area kept');
 end;
 
+{ Asks for the totals, by which the sheet is not written either way. }
+procedure Totals(told: SizeUInt);
+var
+  before: TSheet;
+  count, greatest, place, refusal: QWord;
+begin
+  before := Study;
+  count := Mark;
+  greatest := Mark;
+  place := Mark;
+  refusal := yakepuhi_sheet_totals(@Study[0], told, @count, @greatest, @place);
+  Write('totals');
+  PrintVerdict(told, refusal);
+  if refusal = 0 then
+    PrintSheet
+  else if (count = Mark) and (greatest = Mark) and (place = Mark) then
+    WriteLn('  the three numbers kept')
+  else
+    WriteLn('  the three numbers lost');
+  PrintKept(before);
+end;
+
 { The receptors of a yard, as in docs/sheets.md. }
 procedure ShowYard;
 begin
@@ -249,6 +306,23 @@ begin
   Add('another', 660, Whole);
 end;
 
+{ A sheet for a title block: of two equal figures the first place is shown, closing moves it, and when both are gone the next one is the greatest. }
+procedure ShowTotals;
+begin
+  Totals(SheetBytes);
+  Add('the gate', 300, Whole);
+  Add('the pump house', 100, Whole);
+  Add('the boiler house', 100, Whole);
+  Add('the control room', 150, Whole);
+  Withdraw(1, Whole);
+  CloseGaps(Whole);
+  Withdraw(1, Whole);
+  Withdraw(2, Whole);
+  Totals(SheetBytes - 1);
+  Totals(SheetBytes);
+  Withdraw(3, Whole);
+end;
+
 begin
   EmptySheet;
   ShowYard;
@@ -256,5 +330,8 @@ begin
   WriteLn(KeptMarks(Study, SheetBytes), ' bytes behind the sheet kept');
   EmptySheet;
   ShowFull;
+  WriteLn(KeptMarks(Study, SheetBytes), ' bytes behind the sheet kept');
+  EmptySheet;
+  ShowTotals;
   WriteLn(KeptMarks(Study, SheetBytes), ' bytes behind the sheet kept');
 end.

@@ -7,8 +7,8 @@
    Every function gives 0 for what it accepts, else the number of the first refusal that applies, in this order:
    1 length, 2 digit, for an old line 15 tag, 16 double, then 3 substance, 12 state, 13 placement, 14 surroundings, 5 quantity, 6 heat;
    then for an answer and its rules 7 beyond, 8 space, for a ring 9 threshold, 10 weak, 11 strong, for the old form 8 space, for a case that is
-   added to a sheet 7 beyond, 8 space, 17 full. A place of a sheet is refused by 8 space and 18 vacant alone. 4, which stood for all of 12 to 14,
-   is retired: no function gives it.
+   added to a sheet 7 beyond, 8 space, 17 full. A place of a sheet is refused by 8 space and 18 vacant alone, closing and totals by 8 alone.
+   4, which stood for all of 12 to 14, is retired: no function gives it.
    After a refusal everything that was lent for writing has the bytes that it had.
 
    They use no heap, no file and no global state, so any number of threads can call them at once. */
@@ -97,12 +97,13 @@ uint64_t yakepuhi_old_from_frame(const uint8_t *frame, size_t frame_length, uint
 #define YAKEPUHI_SHEET 2048
 #define YAKEPUHI_PLACES 64
 
-/* A study sheet holds up to 64 cases in the order in which they were added, each at its place. It is the first 2,048 bytes of what is lent,
-   all zero when empty. They can be copied whole, and kept for the same library; what they hold now is in docs/sheets.md, but a later library may keep
-   more in them: let these four functions alone read and write them.
-   From 2,048 zeros on, any sequence of calls does, and tells, what it would on a plain list with holes. Bytes come by otherwise may be anything: each call
-   ends, and does as on the list that docs/sheets.md reads from them.
-   In all four, 8 comes where fewer than 2,048 bytes are lent for the sheet. Where adding, withdrawing or closing is accepted, all 2,048 are
+/* A study sheet holds up to 64 cases in the order in which they were added, each at its place and with the upper end of its overpressure in whole
+   pascals, found when it was added. It is the first 2,048 bytes of what is lent, all zero when empty. They can be copied whole, and kept for the
+   same library; what they hold now is in docs/sheets.md, but a later library may keep more in them: let these five functions alone read and write
+   them. A sheet written by a library without yakepuhi_sheet_totals has no upper ends in it: they read as 0.
+   From 2,048 zeros on, any sequence of calls does, and tells, what it would on a plain list with holes. Bytes come by otherwise may be anything:
+   each call ends, and does as on the list that docs/sheets.md reads from them.
+   In all five, 8 comes where fewer than 2,048 bytes are lent for the sheet. Where adding, withdrawing or closing is accepted, all 2,048 are
    written; those behind them stay. */
 
 /* Adds a case given as the bytes of a frame behind all others: at place 1 of an empty sheet, else at the place after the last case, and into
@@ -124,6 +125,13 @@ uint64_t yakepuhi_sheet_close(uint8_t *sheet, size_t sheet_length);
    bytes that were added. 8 for the sheet, then 18, vacant: the place holds no case, then 8 for an area
    of fewer than 22 bytes. No other refusal comes, and the sheet is not written. */
 uint64_t yakepuhi_sheet_case(const uint8_t *sheet, size_t sheet_length, uint64_t place, uint8_t *area, size_t area_length);
+
+/* The totals: accepted, it sets *count to the number of cases on the sheet, *greatest to the greatest upper end that is kept, in Pa, and *place to
+   the first place that has it; without a case all three are 0, and 0 is no place. From 2,048 zeros on they are those of the plain list, and each
+   upper end is the upper of two whole pascals that hold its case's exact overpressure within the width rule. Where several would do, which of
+   them is kept is open; this library keeps the *upper of yakepuhi_overpressure.
+   8 is its only refusal, and the sheet is not written. */
+uint64_t yakepuhi_sheet_totals(const uint8_t *sheet, size_t sheet_length, uint64_t *count, uint64_t *greatest, uint64_t *place);
 
 #ifdef __cplusplus
 }

@@ -10,8 +10,9 @@ use Rattle.exact.specs.Holding.{Holds}
 use Rattle.fixed.specs.Millis.{milli, millis}
 use Rattle.probits.specs.Promises.{Thousandth}
 use Rattle.layout.specs.declared.Probit.{Probit}
-use Rattle.answer.specs.Answer.{wholeZ, ProbitEnds}
-use Rattle.answer.specs.laws.Between.{between}
+use Rattle.exact.specs.Between.{wholeZ}
+use Rattle.exact.specs.laws.Between.{between}
+use Rattle.answer.specs.Answer.{ProbitEnds}
 
 lower-milli : (z : ℤ) → wholeZ z ⊑ wholeZ (pos 1000) ⊠ milli z
 unfolding milli wholeZ _⊠_

@@ -17,7 +17,7 @@ use Rattle.blast.specs.Promises.{WaveOf, Rounded}
 use Rattle.blast.specs.Ending.{pressure-ended, impulse-ended}
 use Rattle.probits.specs.Promises.{AllProbits}
 use Rattle.answer.specs.Entering.{FiguresOf}
-use Rattle.answer.specs.laws.Between.{wave-ends}
+use Rattle.blast.specs.Ending.{wave-ends}
 use Rattle.answer.proofs.Exactness.{probit-ends}
 
 module _ {c : Case} {k : Cloud} {w : Wave} (a : Accepted standardAir c) (q : CloudOf c k) (v : WaveOf standardAir c w) where

@@ -1,17 +1,14 @@
 -- What an accepted case's answer frame is (document 01, "The answer frame", "What exact means"), and what the entries promise.
 -- The interval ends are open: they enclose their value within the written width. All else is an equation.
-use Prim.Native.Nat.{ℕ, suc, _+_, _*_, _-_, _^_, _≤_, _<_}
+use Prim.Native.Nat.{ℕ, _^_, _<_}
 use mathlib.Core.Path.{_≡_}
 use mathlib.Core.List.{List}
-use mathlib.Core.Option.{some}
-use native.Mathlib.Omega.{arith}
-use lib.IntN.{ℤ, pos, negsuc}
+use lib.IntN.{pos}
 use lib.ListN.{length, take, drop}
 use lib.Signed.{mag}
-use Rattle.exact.specs.Fraction.{Frac, _⊑_, _⊟_, _⊠_}
-use Rattle.exact.specs.Bracket.{Bracket, Meet}
-use Rattle.exact.specs.Formula.{Formula, bracketAt}
-use Rattle.exact.specs.Exact.{HasBracket, AnyTwoMeet, Closes}
+use Rattle.exact.specs.Fraction.{_⊑_, _⊟_}
+use Rattle.exact.specs.Formula.{Formula}
+use Rattle.exact.specs.Between.{wholeZ, ExactBetween}
 use Rattle.guidance.specs.declared.Case.{Case}
 use Rattle.guidance.specs.Clouds.{rangeOf}
 use Rattle.guidance.specs.Waves.{standardAir, overpressure, impulse}
@@ -20,38 +17,12 @@ use Rattle.damage.specs.Damage.{damage}
 use Rattle.frame.specs.declared.Verdict.{Verdict}
 use Rattle.frame.specs.declared.Verdict.the-variants.{Accepted, Refused}
 use Rattle.frame.specs.Verdicts.{frameVerdict, lineVerdict}
+use Rattle.blast.specs.WaveEnds.{WaveEnds}
 use Rattle.layout.specs.declared.Ends.{Ends}
 use Rattle.layout.specs.declared.Probit.{Probit}
 use Rattle.layout.specs.declared.Probits.{Probits}
 use Rattle.layout.specs.declared.Damages.{Damages}
 use Rattle.layout.specs.Places.{answerBytes}
-
--- a whole number as a fraction, and an interval of two
-unfoldable pub wholeZ : ℤ → Frac
-wholeZ (pos n) = record { plus = n; minus = 0; den = 1; positive = omega arith }
-wholeZ (negsuc n) = record { plus = 0; minus = suc n; den = 1; positive = omega arith }
-
-abbrev pub wholes : ℤ → ℤ → Bracket
-wholes l u = record { lo = wholeZ l; hi = wholeZ u }
-
--- a bracket with its ends times k
-unfoldable pub times : ℕ → Bracket → Bracket
-times k B = record { lo = wholeZ (pos k) ⊠ B .lo; hi = wholeZ (pos k) ⊠ B .hi }
-
--- k times the exact value of x lies from l to u: the interval meets the N-th bracket, its ends times k, for every N from 1 that has one;
--- some N has one; any two brackets of x meet; and they close on one number
-pub record ExactBetween (k : ℕ) (x : Formula) (l u : ℤ) : Type 0 where
-  pub ordered : wholeZ l ⊑ wholeZ u
-  pub meets : (n : ℕ) → 1 ≤ n → (B : Bracket) → bracketAt x n ≡ some B → Meet (wholes l u) (times k B)
-  pub there : HasBracket x
-  pub agree : AnyTwoMeet x
-  pub closes : Closes x
-
--- an overpressure in Pa or an impulse in Pa·s: 10,000 × (upper - lower) is at most 20,000 + lower
-pub record WaveEnds (x : Formula) (e : Ends) : Type 0 where
-  pub value : ExactBetween 1 x (pos (e .lower)) (pos (e .upper))
-  pub closed : 10000 * (e .upper - e .lower) ≤ 20000 + e .lower
-  pub fits : e .upper < 2 ^ 32
 
 -- a probit in thousandths: upper - lower is at most 2
 pub record ProbitEnds (x : Formula) (p : Probit) : Type 0 where

@@ -11,7 +11,8 @@ use Rattle.guidance.specs.Probits.{probit1, probit2, probit3, probit4, probit5}
 use Rattle.frame.specs.declared.Verdict.{Verdict}
 use Rattle.frame.specs.declared.Verdict.the-variants.{Accepted}
 use Rattle.answer.specs.declared.Figures.{Figures}
-use Rattle.answer.specs.Answer.{WaveEnds, ProbitEnds, Answered}
+use Rattle.blast.specs.WaveEnds.{WaveEnds}
+use Rattle.answer.specs.Answer.{ProbitEnds, Answered}
 
 pub record FiguresOf (c : Case) (f : Figures) : Type 0 where
   pub range : f .range ≡ rangeOf c

@@ -15,7 +15,8 @@ use Rattle.fields.specs.Bytes.{fieldsOf}
 use Rattle.frame.specs.declared.Refusal.the-variants.{Faulty, Beyond}
 use Rattle.frame.specs.declared.Verdict.the-variants.{Accepted, Refused}
 use Rattle.frame.specs.Verdicts.{frameVerdict}
-use Rattle.answer.specs.Answer.{ExactBetween, Answer}
+use Rattle.exact.specs.Between.{ExactBetween}
+use Rattle.answer.specs.Answer.{Answer}
 
 -- raised, 100 g, c = s = 1, 70 kg
 abbrev pub frameOf : (substance state surroundings heat distance : ℕ) → List ℕ

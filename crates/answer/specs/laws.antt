@@ -1,3 +1,2 @@
-pub mod Between
 pub mod Known
 pub mod Entries

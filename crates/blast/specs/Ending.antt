@@ -2,10 +2,14 @@
 use Prim.Native.Nat.{ℕ, _+_, _*_, _^_, _≤_, _<_}
 use native.Mathlib.Omega.{arith}
 use native.Mathlib.Nat.{lt-of-mul-lt-mul-right}
+use lib.IntN.{pos}
+use Rattle.exact.specs.Fraction.{_⊑_, _⊠_}
 use Rattle.exact.specs.Formula.{Formula}
+use Rattle.exact.specs.Between.{wholeZ}
 use Rattle.exact.specs.laws.Meeting.{any-two-meet}
+use Rattle.exact.specs.laws.Between.{between}
 use Rattle.span.specs.declared.Span.{Span}
-use Rattle.span.specs.Spans.{unit}
+use Rattle.span.specs.Spans.{unit, wholeF}
 use Rattle.span.specs.Enclosing.{wider}
 use Rattle.span.specs.Wholes.{wholes-hold, wholes-finer}
 use Rattle.enclosure.specs.Promises.{enough}
@@ -13,6 +17,7 @@ use Rattle.layout.specs.declared.Ends.{Ends}
 use Rattle.waves.specs.EndBounds.{LowerAtMost, value-most-of}
 use Rattle.blast.specs.Windows.{Window}
 use Rattle.blast.specs.Promises.{Enclosure, PressureSpan, ImpulseSpan, Ended, Roundable, Rounded}
+use Rattle.blast.specs.WaveEnds.{WaveEnds}
 
 below-top : (u t H U : ℕ) → H ≤ t * U → u * U < H + U → u < t + 1
 below-top u t H U h k = lt-of-mul-lt-mul-right U (omega arith)
@@ -43,3 +48,21 @@ module _ {x : Formula} {s : Span} where
 
   pub impulse-ended : {e : Ends} → ImpulseSpan x s → Rounded s e → Ended x (2 ^ 24) e
   impulse-ended p f = ended (2 ^ 24) (p .value) f (omega arith) (p .lower) 15000000 (omega arith) (omega arith)
+
+-- such whole numbers are ends by the width rule
+
+lower-whole : (n : ℕ) → wholeZ (pos n) ⊑ wholeZ (pos 1) ⊠ wholeF n
+unfolding wholeF wholeZ _⊠_
+lower-whole n = record { cross = omega arith }
+
+upper-whole : (n : ℕ) → wholeZ (pos 1) ⊠ wholeF n ⊑ wholeZ (pos n)
+unfolding wholeF wholeZ _⊠_
+upper-whole n = record { cross = omega arith }
+
+pub wave-ends : {x : Formula} {e : Ends} → Ended x (2 ^ 24) e → WaveEnds x e
+wave-ends {e = e} h =
+    record {
+      value = between 1 (h .holds) (lower-whole (e .lower)) (upper-whole (e .upper));
+      closed = omega (arith, h .finer .narrow);
+      fits = omega (arith, h .small);
+    }

@@ -1,3 +1,4 @@
+pub mod WaveEnds
 pub mod Promises
 pub mod Intermediates
 pub mod Distance

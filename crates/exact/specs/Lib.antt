@@ -4,6 +4,7 @@ pub mod Series
 pub mod LnExp
 pub mod Formula
 pub mod Exact
+pub mod Between
 pub mod Smaller
 pub mod Holding
 pub mod laws

@@ -42,4 +42,5 @@ pub mod NarrowingLnExp
 pub mod Later
 pub mod Closing
 pub mod OneValue
+pub mod Between
 pub mod Examples

@@ -15,14 +15,9 @@ fn print_number(n: u64) {
     io::print_decimal(STDOUT_FILENO, n);
 }
 
-fn print_refusal(n: u64) {
-    print(b"R");
+fn print_marked(mark: &[u8], n: u64) {
+    print(mark);
     print_number(n);
-}
-
-fn print_place(k: u64) {
-    print(b"@");
-    print_number(k);
 }
 
 // What is accepted shows its letter, a refusal its number.
@@ -30,7 +25,7 @@ fn print_code(letter: &[u8], n: u64) {
     if n == 0 {
         print(letter);
     } else {
-        print_refusal(n);
+        print_marked(b"R", n);
     }
 }
 
@@ -45,8 +40,8 @@ fn print_case(c: Case) {
 
 fn show_placing(p: Placing) {
     match p {
-        Placing::At(k) => print_place(k as u64),
-        Placing::Refused(r) => print_refusal(sheet::number_of(r)),
+        Placing::At(k) => print_marked(b"@", k as u64),
+        Placing::Refused(r) => print_marked(b"R", sheet::number_of(r)),
     }
 }
 
@@ -56,7 +51,7 @@ fn show_found(letter: &[u8], f: Found) {
             print(letter);
             print_case(c);
         }
-        Found::Refused(v) => print_refusal(sheet::number_of_vacancy(v)),
+        Found::Refused(v) => print_marked(b"R", sheet::number_of_vacancy(v)),
     }
 }
 
@@ -88,9 +83,9 @@ fn add_lent(lent: &mut [u8], line: &[u8]) {
         let mut place = 0;
         let n = lent_sheet::add(lent, &frame, &mut place);
         if n == 0 {
-            print_place(place);
+            print_marked(b"@", place);
         } else {
-            print_refusal(n);
+            print_marked(b"R", n);
         }
     } else {
         print(b"-");
@@ -108,28 +103,21 @@ fn withdraw(s: Sheet, lent: &mut [u8], place: u64) -> Sheet {
 
 fn close(s: Sheet, lent: &mut [u8]) -> Sheet {
     let closed = s.close();
-    print(b"C");
-    print_number(closed.answer as u64);
+    print_marked(b"C", closed.answer as u64);
     print(b" ");
     print_code(b"C", lent_sheet::close(lent));
     closed.sheet
 }
 
-fn show_lent(lent: &[u8], place: u64) {
-    let mut frame = [0u8; 22];
-    let n = lent_sheet::case_at(lent, place, &mut frame);
-    if n == 0 {
-        print(b"H");
-        print_case(fields::read(&frame));
-    } else {
-        print_refusal(n);
-    }
-}
-
 fn hold(s: Sheet, lent: &[u8], place: u64) -> Sheet {
     show_found(b"H", s.case_at(place as usize));
     print(b" ");
-    show_lent(lent, place);
+    let mut frame = [0u8; 22];
+    let n = lent_sheet::case_at(lent, place, &mut frame);
+    print_code(b"H", n);
+    if n == 0 {
+        print_case(fields::read(&frame));
+    }
     s
 }
 
@@ -154,6 +142,42 @@ fn add(s: Sheet, lent: &mut [u8], letter: u8, line: &[u8]) -> Sheet {
     t
 }
 
+// The number of cases, the place of the greatest end, and whether the end lies between two numbers, which leave it open; without them the end.
+fn print_totals(cases: u64, place: u64, greatest: u64, least: u64, most: u64) {
+    print_marked(b"T", cases);
+    print_marked(b"@", place);
+    print(b":");
+    if most == 0 {
+        print_number(greatest);
+    } else if least <= greatest && greatest <= most {
+        print(b"=");
+    } else {
+        print(b"!");
+    }
+}
+
+fn total(s: Sheet, lent: &[u8], text: &[u8]) -> Sheet {
+    let least = scan::next_word(text, 0);
+    let most = scan::next_word(text, least.next);
+    let t = s.totals;
+    print_totals(
+        t.cases as u64,
+        t.place as u64,
+        t.greatest,
+        least.value,
+        most.value,
+    );
+    let mut count = 0;
+    let mut greatest = 0;
+    let mut place = 0;
+    print_code(
+        b" ",
+        lent_sheet::totals(lent, &mut count, &mut greatest, &mut place),
+    );
+    print_totals(count, place, greatest, least.value, most.value);
+    s
+}
+
 // One operation, by its letter.
 fn act(s: Sheet, lent: &mut [u8], text: &[u8]) -> Sheet {
     let word = scan::next_word(text, 0);
@@ -165,6 +189,7 @@ fn act(s: Sheet, lent: &mut [u8], text: &[u8]) -> Sheet {
         b'C' => close(s, lent),
         b'E' => start_anew(lent),
         b'H' => hold(s, lent, place),
+        b'T' => total(s, lent, &text[from..]),
         _ => add(s, lent, letter, &text[from..]),
     }
 }

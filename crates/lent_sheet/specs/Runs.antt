@@ -3,8 +3,8 @@ use Prim.Native.Nat.{ℕ, zero, suc, _≤_}
 use mathlib.Core.List.{List, [], _∷_}
 use mathlib.Core.Option.{Option}
 use lib.ListN.{length, take}
-use Rattle.guidance.specs.declared.Case.{Case}
 use Rattle.fields.specs.Bytes.{frameBytes}
+use Rattle.places.specs.declared.Held.{Held}
 use Rattle.sheet.specs.declared.Placing.the-variants as placing
 use Rattle.sheet.specs.declared.Found.{Found}
 use Rattle.sheet.specs.declared.Found.the-variants as there
@@ -30,9 +30,9 @@ pub data Run : (s : List ℕ) (operations : List Operation) (replies : List Repl
   ends : {s : List ℕ} → Run s [] [] s
   adds
       : {s frame : List ℕ} {place n : ℕ} {u : List ℕ} {k : ℕ} {operations : List Operation} {replies : List Reply} {t : List ℕ} →
-      Adds frame s place n u k →
+      (a : Adds frame s place n u k) →
       Run u operations replies t →
-      Run s (sheet.addFrame frame ∷ operations) (reply n (placed k) ∷ replies) t
+      Run s (sheet.addFrame frame (a .upper) ∷ operations) (reply n (placed k) ∷ replies) t
   withdraws
       : {s : List ℕ} {k n : ℕ} {u : List ℕ} {operations : List Operation} {replies : List Reply} {t : List ℕ} →
       Acts (withdraw k) s n u →
@@ -62,13 +62,13 @@ abbrev pub showing : Found → Reply
 showing (there.Held c) = shows (frameBytes c)
 showing (there.Refused v) = refused (vacancyNumber v)
 
-unfoldable pub replyOf : List (Option Case) → Operation → Reply
-replyOf xs (sheet.addFrame frame) = telling (act xs (sheet.addFrame frame) .told)
-replyOf xs (sheet.addLine line) = telling (act xs (sheet.addLine line) .told)
+unfoldable pub replyOf : List (Option Held) → Operation → Reply
+replyOf xs (sheet.addFrame frame u) = telling (act xs (sheet.addFrame frame u) .told)
+replyOf xs (sheet.addLine line u) = telling (act xs (sheet.addLine line u) .told)
 replyOf xs (sheet.withdraw k) = telling (act xs (sheet.withdraw k) .told)
 replyOf xs sheet.close = telling (act xs sheet.close .told)
 replyOf xs (sheet.caseAt k) = showing (found xs k)
 
-unfoldable pub replied : List (Option Case) → List Operation → List Reply
+unfoldable pub replied : List (Option Held) → List Operation → List Reply
 replied xs [] = []
 replied xs (o ∷ operations) = replyOf xs o ∷ replied (act xs o .list) operations

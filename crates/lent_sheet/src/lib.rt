@@ -3,11 +3,12 @@
 ghost use mathlib.Core.Path.{_≡_};
 ghost use Rattle.sheet_bytes.specs.Packing.{lent};
 ghost use Rattle.sheet.specs.Operations.{listOf};
-ghost use Rattle.lent_sheet.specs.Calls.{withdraw as withdrawing, close as closing, Adds, Acts, Shows};
+ghost use Rattle.lent_sheet.specs.Calls.{withdraw as withdrawing, close as closing, Adds, Acts, Shows, Totalled};
 use sheet::Found;
 use sheet::Placing;
 use sheet::Sheet;
 use sheet_bytes::SIZE;
+use totals::Totals;
 
 // The bytes of a case frame.
 const FRAME: usize = 22;
@@ -15,7 +16,7 @@ const FRAME: usize = 22;
 // Too few bytes are lent.
 const SPACE: u64 = 8;
 
-// The sheet that lent bytes stand for: the empty one where they are too few.
+// The sheet that lent bytes stand for: the empty one where they are too few. Its totals are not worked, since no call but the last shows them.
 fn read(s: &[u8]) -> Sheet
     ensures { λ r. ⌜ listOf r ≡ lent (now (s .entry)) ⌝ }
 {
@@ -23,7 +24,8 @@ fn read(s: &[u8]) -> Sheet
         return Sheet::empty();
     }
     let places = sheet_bytes::unpack(s);
-    Sheet { places }
+    let totals = Totals::none();
+    Sheet { places, totals }
 }
 
 // The case of a frame's bytes, right after the last one.
@@ -100,4 +102,20 @@ pub fn case_at(s: &[u8], place: u64, area: &mut [u8]) -> u64
             0
         }
     }
+}
+
+// The number of cases, the greatest upper end in Pa, and the first place that has it, 0 for none.
+pub fn totals(s: &[u8], count: &mut u64, greatest: &mut u64, place: &mut u64) -> u64
+    ensures { λ n. ⌜ Totalled (now (s .entry)) (now (count .entry)) (now (greatest .entry)) (now (place .entry)) n (now (count .exit)) (now (greatest .exit)) (now (place .exit)) ⌝ }
+{
+    if s.len() < SIZE {
+        return SPACE;
+    }
+    let sheet = read(s);
+    let places = sheet.places;
+    let all = totals::afresh(places);
+    *count = all.cases as u64;
+    *greatest = all.greatest;
+    *place = all.place as u64;
+    0
 }

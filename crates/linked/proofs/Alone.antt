@@ -2,11 +2,11 @@
 use Prim.Native.Nat.{ℕ}
 use mathlib.Core.Path.{_≡_, refl, sym, subst, _∙_}
 use mathlib.Core.List.{List}
-use lib.Dec.{lit≤}
 use Rattle.exact.specs.Formula.{Formula}
 use Rattle.guidance.specs.declared.Case.{Case}
 use Rattle.guidance.specs.Cases as cases
 use Rattle.guidance.specs.Waves.{standardAir}
+use Rattle.guidance.specs.laws.Domain.{standard}
 use Rattle.layout.specs.declared.Ends.{Ends}
 use Rattle.frame.specs.declared.Verdict.{Verdict}
 use Rattle.frame.specs.declared.Verdict.the-variants.{Accepted, Refused}
@@ -14,13 +14,13 @@ use Rattle.frame.specs.declared.Refusal.{Refusal}
 use Rattle.frame.specs.Refusals.{number, code}
 use Rattle.frame.specs.Verdicts.{answerLength, frameVerdict}
 use Rattle.frame.specs.laws.Verdicts.{frame-accepted}
-use Rattle.answer.specs.Answer.{WaveEnds}
+use Rattle.blast.specs.WaveEnds.{WaveEnds}
 use Rattle.linked.specs.Codes.{Given, FigureAnswered}
 
 module _ (frame : List ℕ) {v : Verdict} (decided : v ≡ frameVerdict frame answerLength) where
   module _ {c : Case} (accepts : v ≡ Accepted c) where
     pub taken : cases.Accepted standardAir c × cases.Air standardAir
-    taken = (frame-accepted frame c answerLength (sym decided ∙ accepts) .taken .accepted, record { least = lit≤ tt; most = lit≤ tt })
+    taken = (frame-accepted frame c answerLength (sym decided ∙ accepts) .taken .accepted, standard)
 
     pub given : {x : Case → Formula} {lower upper : ℕ} {e : Ends} → WaveEnds (x c) e → FigureAnswered x frame lower upper 0 (e .lower) (e .upper)
     given {x} {lower} {upper} {e} ended =

@@ -8,7 +8,8 @@ use Rattle.frame.specs.declared.Verdict.{Verdict}
 use Rattle.frame.specs.declared.Verdict.the-variants.{Accepted, Refused}
 use Rattle.frame.specs.Refusals.{code}
 use Rattle.frame.specs.Verdicts.{answerLength, frameVerdict}
-use Rattle.answer.specs.Answer.{WaveEnds, Answered}
+use Rattle.blast.specs.WaveEnds.{WaveEnds}
+use Rattle.answer.specs.Answer.{Answered}
 
 -- an entry's return: the verdict's number, and the area as the verdict says
 pub record Entered (v : Verdict) (n : ℕ) (before after : List ℕ) : Type 0 where

@@ -3,7 +3,7 @@ ghost use lib.ListN.{length};
 ghost use Rattle.frame.specs.Verdicts.{frameVerdict, lineVerdict};
 ghost use Rattle.linked.specs.Codes.{Entered, FigureAnswered};
 ghost use Rattle.linked.specs.Figures.{figureOf};
-ghost use Rattle.answer.specs.Answer.{WaveEnds};
+ghost use Rattle.blast.specs.WaveEnds.{WaveEnds};
 ghost use Rattle.guidance.specs.Waves.{standardAir, overpressure, impulse};
 ghost use Rattle.guidance.specs.Cases.{Accepted, Air};
 use frame::Verdict;

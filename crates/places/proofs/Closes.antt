@@ -8,7 +8,7 @@ use native.Mathlib.Numerals.{add-one}
 use native.Mathlib.Omega.{arith}
 use lib.ListN.{length, length-append, length-set, getD, set, take}
 use lib.Seq.{take-all}
-use Rattle.guidance.specs.declared.Case.{Case}
+use Rattle.places.specs.declared.Held.{Held}
 use Rattle.places.specs.declared.Place.{Place}
 use Rattle.places.specs.declared.Places.{Places}
 use Rattle.places.specs.Holes.{vacant, added, closed}
@@ -51,7 +51,7 @@ module _ {from to : Places} {n i : ℕ} (q : Closing from to n i) (l : i < 64) (
   abbrev stored : Places
   stored = record { all = set (to .all) n (getD (from .all) i d) }
 
-  taken : (c : Case) → holds (getD (from .all) i d) ≡ some c → Closing from stored (n + 1) (i + 1)
+  taken : (c : Held) → holds (getD (from .all) i d) ≡ some c → Closing from stored (n + 1) (i + 1)
   unfolding added
   taken c f =
       let next : standsFor stored ≡ added (standsFor to) c
@@ -63,7 +63,7 @@ module _ {from to : Places} {n i : ℕ} (q : Closing from to n i) (l : i < 64) (
         within = omega (arith, q .within);
         list =
             next
-            ∙ ap (λ (xs : List (Option Case)). xs ++ (some c ∷ [])) (q .list)
+            ∙ ap (λ (xs : List (Option Held)). xs ++ (some c ∷ [])) (q .list)
             ∙ sym (rw (add-one i) (closed-case (contents from) i c more (read ∙ f)));
         count = omega (arith, q .count, ap length next, length-append (standsFor to) (some c ∷ []));
       }
@@ -71,7 +71,7 @@ module _ {from to : Places} {n i : ℕ} (q : Closing from to n i) (l : i < 64) (
   pub close-case : vacant (holds (getD (from .all) i d)) ≡ false → Closing from stored (n + 1) (i + 1)
   close-case e = go (holds (getD (from .all) i d)) e refl
     where
-      go : (x : Option Case) → vacant x ≡ false → holds (getD (from .all) i d) ≡ x → Closing from stored (n + 1) (i + 1)
+      go : (x : Option Held) → vacant x ≡ false → holds (getD (from .all) i d) ≡ x → Closing from stored (n + 1) (i + 1)
       go none e f = absurd (true≢false e)
       go (some c) e f = taken c f
 

@@ -8,7 +8,7 @@ use native.Mathlib.Numerals.{add-one}
 use native.Mathlib.Omega.{arith}
 use lib.ListN.{length, getD, take}
 use lib.Seq.{take-all}
-use Rattle.guidance.specs.declared.Case.{Case}
+use Rattle.places.specs.declared.Held.{Held}
 use Rattle.places.specs.declared.Place.{Place}
 use Rattle.places.specs.declared.Places.{Places}
 use Rattle.places.specs.Holes.{vacant, trim}
@@ -40,7 +40,7 @@ module _ {s : Places} {last i : ℕ} (q : Scanned s last i) (l : i < 64) (d : Pl
   pub scan-case : vacant (holds (getD (s .all) i d)) ≡ false → Scanned s (i + 1) (i + 1)
   scan-case e = go (holds (getD (s .all) i d)) e read
     where
-      go : (x : Option Case) → vacant x ≡ false → getD (contents s) i none ≡ x → Scanned s (i + 1) (i + 1)
+      go : (x : Option Held) → vacant x ≡ false → getD (contents s) i none ≡ x → Scanned s (i + 1) (i + 1)
       go none e f = absurd (true≢false e)
       go (some c) e f =
           record { size = q .size; passed = omega arith; within = omega arith; found = rw (add-one i) (sym (trim-take-case (contents s) i c f)) }
@@ -48,4 +48,4 @@ module _ {s : Places} {last i : ℕ} (q : Scanned s last i) (l : i < 64) (d : Pl
 pub scan-last : {s : Places} {last i : ℕ} → Scanned s last i → 64 ≤ i → last ≡ length (standsFor s)
 unfolding standsFor
 scan-last {s} {last} {i} q l =
-    q .found ∙ ap (λ (xs : List (Option Case)). length (trim xs)) (take-all i (contents s) (omega (arith, sized s (q .size))))
+    q .found ∙ ap (λ (xs : List (Option Held)). length (trim xs)) (take-all i (contents s) (omega (arith, sized s (q .size))))

@@ -7,10 +7,17 @@ ghost use Rattle.places.specs.Holes.{vacant, at, closed};
 ghost use Rattle.places.specs.Places.{contentOf, holds, standsFor};
 use guidance::Case;
 
+// A case with the upper end of its overpressure, as found when it was added.
+pub struct Held {
+    pub case: Case,
+    // Pa
+    pub upper: u64,
+}
+
 // What a place holds.
 pub enum Content {
     Hole,
-    Taken(Case),
+    Taken(Held),
 }
 
 // A struct around it, since an array holds structs and no enums.

@@ -14,7 +14,7 @@ use Rattle.fields.specs.Bytes.{fieldsOf}
 use Rattle.limits.specs.Tests.{outside}
 use Rattle.frame.specs.Tests.{frameTests, lineTests}
 use Rattle.layout.specs.declared.Ends.{Ends}
-use Rattle.answer.specs.Answer.{WaveEnds}
+use Rattle.blast.specs.WaveEnds.{WaveEnds}
 use Rattle.receptor.specs.Receptor.{moved, farthest}
 use Rattle.ring.specs.declared.Refusal.{Refusal}
 use Rattle.ring.specs.declared.Refusal.the-variants.{Faulty, Threshold, Weak, Strong}

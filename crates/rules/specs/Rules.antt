@@ -14,7 +14,7 @@ use Rattle.frame.specs.declared.Verdict.{Verdict}
 use Rattle.frame.specs.declared.Verdict.the-variants as verdict
 use Rattle.frame.specs.Verdicts.{answerLength, frameVerdict, lineVerdict}
 use Rattle.layout.specs.declared.Ends.{Ends}
-use Rattle.answer.specs.Answer.{WaveEnds}
+use Rattle.blast.specs.WaveEnds.{WaveEnds}
 use Rattle.rules.specs.declared.Rule.{Rule}
 use Rattle.rules.specs.declared.Rule.the-variants.{NearField, Detonation, Deflagration, DeflagrationAt034, Undecided}
 use Rattle.rules.specs.declared.Rules.{Rules}

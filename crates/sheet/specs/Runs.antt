@@ -1,7 +1,7 @@
 -- A sequence of operations, each on the sheet that the one before it handed back (request 7).
 use mathlib.Core.List.{List, [], _∷_}
 use mathlib.Core.Option.{Option}
-use Rattle.guidance.specs.declared.Case.{Case}
+use Rattle.places.specs.declared.Held.{Held}
 use Rattle.sheet.specs.declared.Sheet.{Sheet}
 use Rattle.sheet.specs.Operations.{Operation, Told, act, Does}
 
@@ -15,10 +15,10 @@ pub data Run : (s : Sheet) (operations : List Operation) (answers : List Told) (
       Run s (o ∷ operations) (told ∷ answers) t
 
 -- the same on a plain list with holes: the list after the operations, and their answers
-unfoldable pub after : List (Option Case) → List Operation → List (Option Case)
+unfoldable pub after : List (Option Held) → List Operation → List (Option Held)
 after xs [] = xs
 after xs (o ∷ operations) = after (act xs o .list) operations
 
-unfoldable pub answered : List (Option Case) → List Operation → List Told
+unfoldable pub answered : List (Option Held) → List Operation → List Told
 answered xs [] = []
 answered xs (o ∷ operations) = act xs o .told ∷ answered (act xs o .list) operations

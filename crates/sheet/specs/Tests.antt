@@ -8,11 +8,12 @@ use Rattle.guidance.specs.declared.Case.{Case}
 use Rattle.refusals.specs.declared.Fault.{Fault}
 use Rattle.refusals.specs.Order.{Test, _when_, held}
 use Rattle.frame.specs.Tests.{beyond}
+use Rattle.places.specs.declared.Held.{Held}
 use Rattle.sheet.specs.declared.Refusal.{Refusal}
 use Rattle.sheet.specs.declared.Refusal.the-variants.{Faulty, Beyond, Full}
 
 -- the last place that holds a case is the 64th
-abbrev pub full : List (Option Case) → Bool
+abbrev pub full : List (Option Held) → Bool
 full xs = eqb (length xs) 64
 
 -- tests 1 to 7
@@ -20,5 +21,5 @@ unfoldable pub ownTests : List (Test Fault) → Case → List (Test Refusal)
 ownTests tests c = held Faulty tests ++ (Beyond when beyond c) ∷ []
 
 -- then 17
-unfoldable pub addTests : List (Test Fault) → Case → List (Option Case) → List (Test Refusal)
+unfoldable pub addTests : List (Test Fault) → Case → List (Option Held) → List (Test Refusal)
 addTests tests c xs = ownTests tests c ++ (Full when full xs) ∷ []

@@ -3,5 +3,6 @@ pub mod Entering
 pub mod Kept
 pub mod Places
 pub mod Sequences
-pub mod Accepted
+pub mod Rightly
+pub mod Totals
 pub mod Examples

@@ -1,21 +1,30 @@
 // The study sheet: the cases of a yard's receptors, up to 64, each at its place.
 // A refused operation hands the sheet back equal. Of every value of the type each operation ends, and does as on the list that it stands for.
+// The totals are kept up: right ones stay right, and those of the empty sheet are.
 ghost use mathlib.Core.Path.{_≡_};
 ghost use mathlib.Core.List.{[]};
+ghost use mathlib.Core.Option.{none};
+ghost use Prim.Native.Nat.{_≤_, _<_};
+ghost use lib.ListN.{length};
 ghost use Rattle.guidance.specs.CloudWords.{Heated};
 ghost use Rattle.refusals.specs.Faults.{filled};
+ghost use Rattle.places.specs.Holes.{withdrawn};
+ghost use Rattle.totals.specs.Keeping.{afterWithdrawing};
 ghost use Rattle.limits.specs.Checks.{HeatedIfSound};
 ghost use Rattle.sheet.specs.Refusals.{number, word, vacancyNumber, vacancyWord};
-ghost use Rattle.sheet.specs.Operations.{addFrame, addLine, withdraw, close, placing, finding, counting, listOf, found, Does};
-ghost use Rattle.sheet.specs.Steps.{Adds, Enters};
+ghost use Rattle.sheet.specs.Operations.{addFrame, addLine, withdraw, close, placing, finding, counting, adding, listOf, Right, found, Gives, Does, DoesWith};
+ghost use Rattle.sheet.specs.Steps.{Enters};
 use guidance::Case;
 use limits::Checked;
 use places::Content;
+use places::Held;
 use places::Places;
 use refusals::Fault;
+use totals::Totals;
 
 pub struct Sheet {
     pub places: Places,
+    pub totals: Totals,
 }
 
 // Why a case is not added, in the order of the tests: a fault of its own, then 7 and 17.
@@ -100,10 +109,11 @@ pub fn word_of_vacancy(v: Vacancy) -> [u8; 12]
 
 impl Sheet {
     pub fn empty() -> Self
-        ensures { λ r. ⌜ listOf r ≡ [] ⌝ }
+        ensures { λ r. ⌜ (listOf r ≡ []) × (Right r) ⌝ }
     {
         Sheet {
             places: Places::empty(),
+            totals: Totals::none(),
         }
     }
 
@@ -116,10 +126,24 @@ impl Sheet {
         }
     }
 
-    // Tests 7 and 17, then the place after the last.
-    fn place(mut self, c: Case) -> Added
+    // A case right after the last.
+    fn put(mut self, last: usize, h: Held) -> Added
+        requires { ⌜ (last ≡ length (listOf self)) × (last < 64) ⌝ }
+        ensures { λ a. ⌜ Gives self (adding none (listOf self) h) (a .sheet) (placing (a .answer)) ⌝ }
+    {
+        let places = self.places.with(last + 1, Content::Taken(h));
+        self.totals = self.totals.after_adding(places, last + 1, h);
+        self.places = places;
+        Added {
+            sheet: self,
+            answer: Placing::At(last + 1),
+        }
+    }
+
+    // Tests 7 and 17, then the case with the upper end of its overpressure.
+    fn place(self, c: Case) -> Added
         requires { ⌜ Heated c ⌝ }
-        ensures { λ a. ⌜ Adds self c a ⌝ }
+        ensures { λ a. ⌜ Enters self (Checked.Sound c) a ⌝ }
     {
         let last = self.places.last();
         let beyond = frame::is_beyond(c);
@@ -129,11 +153,9 @@ impl Sheet {
         if last == 64 {
             return self.refused(Refusal::Full);
         }
-        self.places = self.places.with(last + 1, Content::Taken(c));
-        Added {
-            sheet: self,
-            answer: Placing::At(last + 1),
-        }
+        let ends = blast::pressure(c, guidance::STANDARD_AIR);
+        let upper = ends.upper;
+        self.put(last, Held { case: c, upper })
     }
 
     // What tests 1 to 6 found stands, else 7 and 17 decide.
@@ -149,7 +171,7 @@ impl Sheet {
 
     // The case of a frame's bytes, right after the last one; its place is told.
     pub fn add_frame(mut self, frame: &[u8]) -> Added
-        ensures { λ a. ⌜ Does self (addFrame (now (frame .entry))) (a .sheet) (placing (a .answer)) ⌝ }
+        ensures { λ a. ⌜ DoesWith self (addFrame (now (frame .entry))) (a .sheet) (placing (a .answer)) ⌝ }
     {
         let s = frame::check_frame(frame);
         self.enter(s)
@@ -157,10 +179,21 @@ impl Sheet {
 
     // The same for a case given as a line.
     pub fn add_line(mut self, line: &[u8]) -> Added
-        ensures { λ a. ⌜ Does self (addLine (now (line .entry))) (a .sheet) (placing (a .answer)) ⌝ }
+        ensures { λ a. ⌜ DoesWith self (addLine (now (line .entry))) (a .sheet) (placing (a .answer)) ⌝ }
     {
         let s = frame::check_line(line);
         self.enter(s)
+    }
+
+    // A gap in the place of a case.
+    fn take(mut self, place: usize) -> Self
+        requires { ⌜ (1 ≤ place) × (place ≤ 64) ⌝ }
+        ensures { λ r. ⌜ (listOf r ≡ withdrawn (listOf self) place) × (r .totals ≡ afterWithdrawing (self .totals) (r .places) place) ⌝ }
+    {
+        let places = self.places.with(place, Content::Hole);
+        self.totals = self.totals.after_withdrawing(places, place);
+        self.places = places;
+        self
     }
 
     // The case at a place goes and leaves a gap; nothing moves.
@@ -173,10 +206,11 @@ impl Sheet {
                 sheet: self,
                 answer: Found::Refused(Vacancy::Vacant),
             },
-            Content::Taken(c) => {
-                self.places = self.places.with(place, Content::Hole);
+            Content::Taken(h) => {
+                let sheet = self.take(place);
+                let c = h.case;
                 Withdrawn {
-                    sheet: self,
+                    sheet,
                     answer: Found::Held(c),
                 }
             }
@@ -187,8 +221,10 @@ impl Sheet {
     pub fn close(mut self) -> Closed
         ensures { λ r. ⌜ Does self close (r .sheet) (counting (r .answer)) ⌝ }
     {
-        self.places = self.places.close();
-        let count = self.places.last();
+        let places = self.places.close();
+        self.totals = totals::afresh(places);
+        let count = places.last();
+        self.places = places;
         Closed {
             sheet: self,
             answer: count,
@@ -202,7 +238,10 @@ impl Sheet {
         let content = self.places.content_at(place);
         match content {
             Content::Hole => Found::Refused(Vacancy::Vacant),
-            Content::Taken(c) => Found::Held(c),
+            Content::Taken(h) => {
+                let c = h.case;
+                Found::Held(c)
+            }
         }
     }
 }

@@ -8,15 +8,15 @@ use native.Mathlib.Omega.{arith}
 use lib.ListN.{length, getD, take, drop, set, length-set, length-drop}
 use lib.Seq.{sets, length-sets, take-all, take-suc, take-suc-set, length-take-le}
 use borrow.Rule.Slice.PartMut.{midOf, putMid}
-use Rattle.guidance.specs.declared.Case.{Case}
 use Rattle.bytes.specs.Storing.{Stored}
 use Rattle.bytes.specs.laws.Storing.{and-then, through-part, sets-all}
+use Rattle.places.specs.declared.Held.{Held}
 use Rattle.places.specs.declared.Place.{Place}
 use Rattle.places.specs.declared.Places.{Places}
 use Rattle.places.specs.Places.{holds, contents, standsFor}
 use Rattle.places.specs.laws.Trims.{map-set}
 use Rattle.places.specs.laws.Contents.{holds-at, sized}
-use Rattle.sheet_bytes.specs.Packing.{placeBytes, packed, sheetBytes, caseIn, unpacked}
+use Rattle.sheet_bytes.specs.Packing.{placeBytes, packed, sheetBytes, heldIn, unpacked}
 use Rattle.sheet_bytes.specs.laws.Lent.{contents-pad}
 use Rattle.sheet_bytes.specs.laws.Places.{length-place, length-packed, packed-next, unpacked-next}
 
@@ -35,7 +35,7 @@ pub unpack-again
     Unpacking s places i →
     i < 64 →
     k ≡ 32 →
-    holds p ≡ caseIn (take k (drop (32 * i) s)) →
+    holds p ≡ heldIn (take k (drop (32 * i) s)) →
     Unpacking s (record { all = set (places .all) i p }) (i + 1)
 unpack-again {s} {places} {i} p k u l size e =
     let inside : i < length (contents places) = omega (arith, sized places (u .size)) in
@@ -90,4 +90,4 @@ module _ {places : Places} {before s : List ℕ} {i : ℕ} (p : Packing places b
 pub pack-last : {places : Places} {before s : List ℕ} {i : ℕ} → Packing places before s i → 64 ≤ i → s ≡ sets before 0 (sheetBytes (standsFor places))
 pack-last {places} {before} {i = i} p l =
     let all = take-all i (contents places) (omega (arith, sized places (p .size))) in
-    p .text ∙ ap (λ (xs : List (Option Case)). sets before 0 (packed xs)) (all ∙ contents-pad places (p .size))
+    p .text ∙ ap (λ (xs : List (Option Held)). sets before 0 (packed xs)) (all ∙ contents-pad places (p .size))

@@ -1,43 +1,43 @@
--- A study sheet as lent bytes: 64 places of 32 bytes, one after the other (request 7).
+-- A study sheet as lent bytes: 64 places of 32 bytes, one after the other (request 7), with each case the upper end that is kept (request 8).
 use Prim.Native.Nat.{ℕ, zero, suc}
 use mathlib.Core.Bool.{Bool, cond}
 use mathlib.Core.List.{List, [], _∷_, _++_}
 use mathlib.Core.Option.{Option, none, some}
 use lib.ListN.{length, take, drop, replicate}
 use lib.Dec.{eqb, ltb}
-use Rattle.guidance.specs.declared.Case.{Case}
-use Rattle.bytes.specs.Numbers.{oneAt, one}
+use Rattle.bytes.specs.Numbers.{oneAt, fourAt, one, four}
 use Rattle.fields.specs.Bytes.{fieldsOf, frameBytes}
+use Rattle.places.specs.declared.Held.{Held}
 use Rattle.places.specs.Holes.{trim}
 
--- a hole is 32 zeros; a case is 1, the 22 bytes of its frame and 9 zeros
-unfoldable pub placeBytes : Option Case → List ℕ
+-- a hole is 32 zeros; a case is 1, the 22 bytes of its frame, its upper end in 4 and 5 zeros
+unfoldable pub placeBytes : Option Held → List ℕ
 placeBytes none = replicate 32 0
-placeBytes (some c) = one 1 ++ frameBytes c ++ replicate 9 0
+placeBytes (some h) = one 1 ++ frameBytes (h .case) ++ four (h .upper) ++ replicate 5 0
 
 -- places one after the other
-unfoldable pub packed : List (Option Case) → List ℕ
+unfoldable pub packed : List (Option Held) → List ℕ
 packed [] = []
 packed (x ∷ xs) = placeBytes x ++ packed xs
 
 -- n places: a list cut to them, or filled up with holes
-unfoldable pub pad : (n : ℕ) → List (Option Case) → List (Option Case)
+unfoldable pub pad : (n : ℕ) → List (Option Held) → List (Option Held)
 pad zero xs = []
 pad (suc n) [] = none ∷ pad n []
 pad (suc n) (x ∷ xs) = x ∷ pad n xs
 
 -- the bytes of the sheet that stands for a list
-abbrev pub sheetBytes : List (Option Case) → List ℕ
+abbrev pub sheetBytes : List (Option Held) → List ℕ
 sheetBytes xs = packed (pad 64 xs)
 
--- what 32 bytes say: nothing where the first is 0, else the case of the next 22
-unfoldable pub caseIn : List ℕ → Option Case
-caseIn place = cond (eqb (oneAt place 0) 0) none (some (fieldsOf (take 22 (drop 1 place))))
+-- what 32 bytes say: nothing where the first is 0, else the case of the next 22, with the end in the next 4
+unfoldable pub heldIn : List ℕ → Option Held
+heldIn place = cond (eqb (oneAt place 0) 0) none (some (record { case = fieldsOf (take 22 (drop 1 place)); upper = fourAt place 23 }))
 
 -- what the first n places hold
-unfoldable pub unpacked : (n : ℕ) → List ℕ → List (Option Case)
+unfoldable pub unpacked : (n : ℕ) → List ℕ → List (Option Held)
 unpacked zero s = []
-unpacked (suc n) s = caseIn (take 32 s) ∷ unpacked n (drop 32 s)
+unpacked (suc n) s = heldIn (take 32 s) ∷ unpacked n (drop 32 s)
 
 -- the bytes of a sheet, 64 × 32; whether fewer are lent
 abbrev pub size : ℕ
@@ -47,5 +47,5 @@ abbrev pub short : List ℕ → Bool
 short s = ltb (length s) size
 
 -- the list that lent bytes stand for; too few stand for none
-unfoldable pub lent : List ℕ → List (Option Case)
+unfoldable pub lent : List ℕ → List (Option Held)
 lent s = cond (short s) [] (trim (unpacked 64 s))

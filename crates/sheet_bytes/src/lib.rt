@@ -4,8 +4,9 @@ ghost use Prim.Native.Nat.{_≤_};
 ghost use lib.ListN.{length, replicate};
 ghost use lib.Seq.{sets};
 ghost use Rattle.places.specs.Places.{holds, contents, standsFor};
-ghost use Rattle.sheet_bytes.specs.Packing.{placeBytes, sheetBytes, caseIn, unpacked, size};
+ghost use Rattle.sheet_bytes.specs.Packing.{placeBytes, sheetBytes, heldIn, unpacked, size};
 use places::Content;
+use places::Held;
 use places::Place;
 use places::Places;
 
@@ -34,9 +35,10 @@ fn put_place(s: &mut [u8], p: Place)
     let content = p.content;
     match content {
         Content::Hole => {}
-        Content::Taken(c) => {
+        Content::Taken(h) => {
             bytes::put_one(s, 0, 1);
-            fields::write(&mut s[1..23], c);
+            fields::write(&mut s[1..23], h.case);
+            bytes::put_four(s, 23, h.upper);
         }
     }
 }
@@ -44,16 +46,17 @@ fn put_place(s: &mut [u8], p: Place)
 // What 32 bytes say.
 fn place_of(s: &[u8]) -> Place
     requires { ⌜ length (now s) ≡ 32 ⌝ }
-    ensures { λ r. ⌜ holds r ≡ caseIn (now (s .entry)) ⌝ }
+    ensures { λ r. ⌜ holds r ≡ heldIn (now (s .entry)) ⌝ }
 {
     if s[0] == 0 {
         return Place {
             content: Content::Hole,
         };
     }
-    let c = fields::read(&s[1..23]);
+    let case = fields::read(&s[1..23]);
+    let upper = bytes::four_at(s, 23);
     Place {
-        content: Content::Taken(c),
+        content: Content::Taken(Held { case, upper }),
     }
 }
 

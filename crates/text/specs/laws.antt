@@ -1,5 +1,4 @@
 -- The laws of the definitions.
-pub mod Settled
 pub mod Lines
 pub mod Digits
 pub mod Tails

@@ -17,7 +17,8 @@ use Rattle.hexadecimals.specs.Digits.{allDigits, bytesOf}
 use Rattle.frame.specs.laws.Verdicts.{line-frame}
 use Rattle.layout.specs.declared.Probit.{Probit}
 use Rattle.layout.specs.declared.Damages.{Damages}
-use Rattle.answer.specs.Answer.{wholeZ, ProbitEnds, reading, readings, Answer, FromFrame, FromLine}
+use Rattle.exact.specs.Between.{wholeZ}
+use Rattle.answer.specs.Answer.{ProbitEnds, reading, readings, Answer, FromFrame, FromLine}
 
 -- what is promised of a line of 44 digits is what is promised of its bytes
 pub line-as-frame : (line before : List ℕ) (v : Verdict) (after : List ℕ) → length line ≡ 44 → allDigits line ≡ true

@@ -20,8 +20,9 @@ use Rattle.limits.specs.Tests.{quantityOutside, heatMissing, valueTests, fieldT
 use Rattle.frame.specs.Tests.{frameTests}
 use Rattle.frame.specs.Verdicts.{lastTests, frameVerdict}
 use Rattle.frame.specs.laws.Verdicts.{heat-given}
-use Rattle.answer.specs.Answer.{wholeZ, times, ExactBetween, Answer}
-use Rattle.answer.specs.laws.Between.{times-mono, between}
+use Rattle.exact.specs.Between.{wholeZ, times, ExactBetween}
+use Rattle.exact.specs.laws.Between.{times-mono, between}
+use Rattle.answer.specs.Answer.{Answer}
 use Rattle.answer.specs.KnownCases.{q, KnownCases}
 
 -- whole numbers around a value that is the fraction v

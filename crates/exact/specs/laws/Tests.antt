@@ -1,4 +1,4 @@
--- Tests: both parts of a conjunction that holds, and two comparisons that agree. Assumes nothing.
+-- Tests: one holds or fails, both parts of a conjunction that holds, and two comparisons that agree. Assumes nothing.
 use Prim.Native.Nat.{ℕ, _≤_, _<_}
 use mathlib.Core.Path.{_≡_, refl, sym, _∙_}
 use mathlib.Core.Bool.{Bool, true, false, false≢true, _&&_}
@@ -6,6 +6,10 @@ use native.Mathlib.Decide.{decLe}
 use native.Mathlib.Omega.{arith}
 use lib.Dec.{ltb}
 use borrow.Author.Tests.{lt-ltb, le-ltb}
+
+pub settle : {P : Type 0} (t : Bool) → (t ≡ true → P) → (t ≡ false → P) → P
+settle true held failed = held refl
+settle false held failed = failed refl
 
 pub both-true : (a b : Bool) → (a && b) ≡ true → (a ≡ true) × (b ≡ true)
 both-true true b e = (refl, e)

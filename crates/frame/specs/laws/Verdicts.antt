@@ -9,6 +9,7 @@ use lib.ListN.{length}
 use borrow.Author.Tests.{ne-eqb, ltb-false, le-ltb}
 use Rattle.guidance.specs.declared.Case.{Case}
 use Rattle.guidance.specs.Cases as cases
+use Rattle.guidance.specs.laws.Domain.{accepted}
 use Rattle.guidance.specs.CloudWords.{Heated}
 use Rattle.guidance.specs.Waves.{standardAir}
 use Rattle.refusals.specs.declared.Fault.{Fault}
@@ -86,8 +87,7 @@ taken-by : (d c : Case) (room : ℕ) → Heated d → firstOf (lastTests d room)
 unfolding lastTests
 taken-by d c room w h same =
     let p = passed (lastTests d room) h in
-    let a : cases.Accepted standardAir d = record { fields = w .fields; heat = w .heat; within = p .0 } in
-    record { same = same; accepted = rw same a; enough = ltb-false room answerLength (p .1 .0) }
+    record { same = same; accepted = rw same (accepted w (p .0)); enough = ltb-false room answerLength (p .1 .0) }
 
 pub record FrameTaken (frame : List ℕ) (c : Case) (room : ℕ) : Type 0 where
   pub size : length frame ≡ 22

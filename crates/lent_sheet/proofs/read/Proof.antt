@@ -12,14 +12,17 @@ empty-requires : tie.Need-empty-requires
 empty-requires c κs = search needs
 
 returns : tie.Need-returns
-returns c = c .empty .ensures ∙ sym (short-lent _ (c .before .if1 .taken))
+returns c = c .empty .ensures .0 ∙ sym (short-lent _ (c .before .if1 .taken))
 
 unpack-requires : tie.Need-unpack-requires
 unpack-requires c κs = search needs
 
+none-requires : tie.Need-none-requires
+none-requires c κs = search needs
+
 returns-2 : tie.Need-returns-2
 unfolding listOf standsFor
-returns-2 c = ap trim (c .unpack .ensures) ∙ sym (enough-lent _ (c .before .if1 .left))
+returns-2 c = ap trim (c .before .unpack .ensures) ∙ sym (enough-lent _ (c .before .before .if1 .left))
 
 pub read-spec : {M : Type 1} → statement M
-read-spec = tie.close (tie.spec empty-requires returns unpack-requires returns-2)
+read-spec = tie.close (tie.spec empty-requires returns unpack-requires none-requires returns-2)

@@ -16,9 +16,9 @@ use Rattle.sheet.specs.Refusals.{number}
 use Rattle.sheet.specs.Tests.{ownTests}
 use Rattle.lent_sheet.specs.Calls.{add, tests}
 
-pub added-back : (frame s : List ℕ) → T (areBytes frame) → firstOf (tests (add frame) s) ≡ none → frameBytes (fieldsOf frame) ≡ frame
+pub added-back : (frame s : List ℕ) (u : ℕ) → T (areBytes frame) → firstOf (tests (add frame u) s) ≡ none → frameBytes (fieldsOf frame) ≡ frame
 unfolding tests ownTests
-added-back frame s bytes h =
+added-back frame s u bytes h =
     let c = fieldsOf frame in
     let own = neither-found number _ _ (sym (first-held number (ownTests (frameTests frame) c) _) ∙ h) .0 in
     let clear = neither-found Faulty _ _ (sym (first-held Faulty (frameTests frame) ((Beyond when beyond c) ∷ [])) ∙ own) .0 in

@@ -1,6 +1,6 @@
 -- `linked::ends_of` meets its contract. Assumes nothing.
 use borrow.Author.Needs.{needs}
-use Rattle.answer.specs.laws.Between.{wave-ends}
+use Rattle.blast.specs.Ending.{wave-ends}
 use Rattle.linked.proofs.ends_of.Statement.{statement}
 use Rattle.linked.proofs.ends_of.Tie as tie
 

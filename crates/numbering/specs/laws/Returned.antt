@@ -94,7 +94,7 @@ never ts a h = absent (λ (n : ℕ). n) 4 ts a h
 
 tests-not-4 : (c : lent-calls.Change) (s : List ℕ) → firstOf (lent-calls.tests c s) ≡ some 4 → ⊥
 unfolding lent-calls.tests
-tests-not-4 (lent-calls.add frame) s h = go (firstOf own) (sym (first-held sheets.number own last) ∙ h)
+tests-not-4 (lent-calls.add frame u) s h = go (firstOf own) (sym (first-held sheets.number own last) ∙ h)
   where
     own : List (Test of-adding.Refusal)
     own = ownTests (frameTests frame) (fieldsOf frame)
@@ -117,3 +117,6 @@ sheet-add-not-4 a h = sheet-not-4 (a .acts) h
 pub sheet-case-not-4 : {k n : ℕ} {s before after : List ℕ} → lent-calls.Shows k s before n after → n ≡ 4 → ⊥
 unfolding lent-calls.showTests
 sheet-case-not-4 {k} {n} {s} {before} a h = never _ refl (at-4 _ (sym (a .returned) ∙ h))
+
+pub sheet-totals-not-4 : {s : List ℕ} {a b c n x y z : ℕ} → lent-calls.Totalled s a b c n x y z → n ≡ 4 → ⊥
+sheet-totals-not-4 t h = never _ refl (at-4 _ (sym (t .returned) ∙ h))

@@ -8,7 +8,7 @@ use native.Mathlib.Nat.{not-suc-le-zero}
 use native.Mathlib.Decide.{decLe}
 use native.Mathlib.Omega.{arith}
 use lib.ListN.{length, length-map, getD, set, List·getD-eq-default}
-use Rattle.guidance.specs.declared.Case.{Case}
+use Rattle.places.specs.declared.Held.{Held}
 use Rattle.places.specs.declared.Place.{Place}
 use Rattle.places.specs.declared.Places.{Places}
 use Rattle.places.specs.Holes.{vacant, trim, at, added, withdrawn}
@@ -49,19 +49,19 @@ module _ (s : Places) (size : length (s .all) ≡ 64) where
   at-inside k d l m = at-contents k l ∙ holds-at (s .all) (k - 1) d (omega (arith, size))
 
   -- a place that holds a case is one of the 64
-  pub taken-inside : (k : ℕ) (c : Case) → at (standsFor s) k ≡ some c → (1 ≤ k) × (k ≤ 64)
+  pub taken-inside : (k : ℕ) (c : Held) → at (standsFor s) k ≡ some c → (1 ≤ k) × (k ≤ 64)
   unfolding at
   taken-inside zero c e = let z : _≡_ {A = ℕ} 0 1 = cc in absurd (omega arith)
   taken-inside (suc i) c e = (omega arith, go (decLe (suc i) 64))
     where
       go : Dec (suc i ≤ 64) → suc i ≤ 64
       go (yes h) = h
-      go (no h) = let z : _≡_ {A = Option Case} none (some c) = sym (at-outside (suc i) (omega arith)) ∙ e in absurd (Option·none-ne-some c z)
+      go (no h) = let z : _≡_ {A = Option Held} none (some c) = sym (at-outside (suc i) (omega arith)) ∙ e in absurd (Option·none-ne-some c z)
 
   -- a case stored right after the last one, and a hole stored
   module _ (t : Places) where
     pub stored-next
-        : (n : ℕ) (x : Content) (c : Case) →
+        : (n : ℕ) (x : Content) (c : Held) →
         contentOf x ≡ some c →
         n ≡ length (standsFor s) →
         n < 64 →

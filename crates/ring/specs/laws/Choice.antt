@@ -9,8 +9,8 @@ use borrow.Author.Tests.{eq-eqb, eqb-true, eqb-false, le-leb, lt-leb}
 use Rattle.guidance.specs.declared.Case.{Case}
 use Rattle.guidance.specs.Waves.{overpressure}
 use Rattle.layout.specs.declared.Ends.{Ends}
-use Rattle.answer.specs.Answer.{WaveEnds}
-use Rattle.answer.specs.laws.Between.{wave-ends}
+use Rattle.blast.specs.WaveEnds.{WaveEnds}
+use Rattle.blast.specs.Ending.{wave-ends}
 use Rattle.receptor.specs.Receptor.{moved, farthest}
 use Rattle.ring.specs.declared.Side.{Side}
 use Rattle.ring.specs.declared.Side.the-variants.{Lower, Upper}

@@ -4,15 +4,14 @@ use native.Mathlib.Omega.{arith}
 use Rattle.guidance.specs.declared.Case.{Case}
 use Rattle.guidance.specs.Cases.{Air, Accepted}
 use Rattle.guidance.specs.CloudWords.{Heated}
+use Rattle.guidance.specs.laws.Domain.{accepted}
 use Rattle.receptor.specs.Receptor.{moved, farthest}
 use Rattle.receptor.specs.laws.Moved.{heated-moved, within-nearer, never-beyond}
 use Rattle.receptor.specs.laws.Reach.{farthest-reached}
 use Rattle.ring.specs.Searching.{Standing}
 
 pub standing-accepted : {air : ℕ} {c : Case} {d : ℕ} → Standing air c d → Accepted air (moved c d)
-standing-accepted s =
-    let h = heated-moved (s .heated) (s .permitted) in
-    record { fields = h .fields; heat = h .heat; within = s .within }
+standing-accepted s = accepted (heated-moved (s .heated) (s .permitted)) (s .within)
 
 -- nearer, it still stands
 pub standing-nearer : {air : ℕ} {c : Case} {d e : ℕ} → Standing air c e → 1 ≤ d → d ≤ e → Standing air c d

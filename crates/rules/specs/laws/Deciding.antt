@@ -16,8 +16,8 @@ use Rattle.guidance.specs.Waves.{nearField}
 use Rattle.layout.specs.declared.Ends.{Ends}
 use Rattle.blast.specs.Promises.{PressureSpan, ImpulseSpan, Rounded}
 use Rattle.blast.specs.Ending.{pressure-ended, impulse-ended}
-use Rattle.answer.specs.Answer.{WaveEnds}
-use Rattle.answer.specs.laws.Between.{wave-ends}
+use Rattle.blast.specs.WaveEnds.{WaveEnds}
+use Rattle.blast.specs.Ending.{wave-ends}
 use Rattle.rules.specs.declared.Rule.{Rule}
 use Rattle.rules.specs.declared.Rule.the-variants.{NearField, Detonation, Deflagration, DeflagrationAt034, Undecided}
 use Rattle.rules.specs.Rules.{detonationRule, Fits, Gave}

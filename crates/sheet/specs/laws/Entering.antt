@@ -1,6 +1,6 @@
 -- Adding from what tests 1 to 6 make of a case, and by tests 7 and 17. Assumes nothing.
-use Prim.Native.Nat.{ℕ, _+_, _-_, _<_}
-use mathlib.Core.Path.{_≡_, refl, sym, ap, _∙_}
+use Prim.Native.Nat.{ℕ, _+_, _-_, _^_, _<_}
+use mathlib.Core.Path.{_≡_, refl, sym, ap, subst, _∙_}
 use mathlib.Core.Bool.{true, false}
 use mathlib.Core.List.{List, [], _∷_, append-assoc}
 use mathlib.Core.Option.{Option, none, some, Option·none-ne-some}
@@ -8,92 +8,143 @@ use native.Mathlib.Omega.{arith}
 use lib.ListN.{length, set}
 use borrow.Author.Tests.{eq-eqb, ne-eqb}
 use Rattle.guidance.specs.declared.Case.{Case}
+use Rattle.guidance.specs.Waves.{standardAir, overpressure}
 use Rattle.hexadecimals.specs.Digits.{bytesOf}
 use Rattle.refusals.specs.declared.Fault.{Fault}
 use Rattle.refusals.specs.Order.{Test, _when_, firstOf, held}
 use Rattle.refusals.specs.laws.Order.{orElse, first-held, neither-found, passed}
 use Rattle.fields.specs.Bytes.{fieldsOf}
 use Rattle.limits.specs.declared.Checked.{Checked}
+use Rattle.limits.specs.declared.Checked.the-variants.{Sound}
 use Rattle.limits.specs.Checks.{checkedBy}
 use Rattle.frame.specs.Tests.{frameTests, lineTests, beyond}
 use Rattle.frame.specs.Checks.{frameChecked, lineChecked}
+use Rattle.layout.specs.declared.Ends.{Ends}
+use Rattle.blast.specs.Promises.{Ended}
+use Rattle.blast.specs.Ending.{wave-ends}
+use Rattle.places.specs.declared.Held.{Held}
 use Rattle.places.specs.declared.Content.the-variants.{Taken}
 use Rattle.places.specs.Places.{standsFor}
 use Rattle.places.specs.laws.Contents.{stands-most, stored-next}
+use Rattle.totals.specs.Keeping.{afterAdding}
+use Rattle.totals.specs.laws.Changes.{right-added}
 use Rattle.sheet.specs.declared.Sheet.{Sheet}
 use Rattle.sheet.specs.declared.Added.{Added}
 use Rattle.sheet.specs.declared.Refusal.{Refusal}
 use Rattle.sheet.specs.declared.Refusal.the-variants.{Faulty, Beyond, Full}
 use Rattle.sheet.specs.declared.Placing.the-variants as placed
 use Rattle.sheet.specs.Tests.{full, ownTests, addTests}
-use Rattle.sheet.specs.Operations.{Outcome, placing, adding, addFrame, addLine, act, listOf, Gives, Does}
-use Rattle.sheet.specs.Steps.{last, entered, Adds, Enters}
+use Rattle.sheet.specs.Refusals.{number}
+use Rattle.sheet.specs.Ends.{UpperEnd}
+use Rattle.sheet.specs.Operations.{placing, adding, heldOf, addFrame, addLine, refusal, act, listOf, Gives, DoesWith}
+use Rattle.sheet.specs.Steps.{last, entered, EndOf, Enters}
 
 -- tests 7 and 17 decide where none of 1 to 6 applies
-pub first-added : (ts : List (Test Fault)) (c : Case) (xs : List (Option Case)) → firstOf (addTests ts c xs) ≡ orElse Faulty (firstOf ts) (last c xs)
+first-added : (ts : List (Test Fault)) (c : Case) (xs : List (Option Held)) → firstOf (addTests ts c xs) ≡ orElse Faulty (firstOf ts) (last c xs)
 unfolding ownTests addTests
 first-added ts c xs =
     ap firstOf (append-assoc (held Faulty ts) ((Beyond when beyond c) ∷ []) ((Full when full xs) ∷ []))
     ∙ first-held Faulty ts ((Beyond when beyond c) ∷ (Full when full xs) ∷ [])
 
 -- no test applies: each passed
-pub all-passed : (ts : List (Test Fault)) (c : Case) (xs : List (Option Case)) → firstOf (addTests ts c xs) ≡ none
+pub all-passed : (ts : List (Test Fault)) (c : Case) (xs : List (Option Held)) → firstOf (addTests ts c xs) ≡ none
     → (firstOf ts ≡ none) × (beyond c ≡ false) × (full xs ≡ false)
 all-passed ts c xs h =
     let n = neither-found Faulty (firstOf ts) (last c xs) (sym (first-added ts c xs) ∙ h) in
     let p = passed _ (n .1) in
     (n .0, p .0, p .1 .0)
 
-entered-by : (ts : List (Test Fault)) (c : Case) (xs : List (Option Case)) → adding (firstOf (addTests ts c xs)) xs c ≡ entered (checkedBy (firstOf ts) c) xs
-unfolding adding
-entered-by ts c xs = ap (λ (o : Option Refusal). adding o xs c) (first-added ts c xs) ∙ go (firstOf ts)
-  where
-    go : (o : Option Fault) → adding (orElse Faulty o (last c xs)) xs c ≡ entered (checkedBy o c) xs
-    go none = refl
-    go (some f) = refl
+module _ (ts : List (Test Fault)) (c : Case) where
+  entered-by : (xs : List (Option Held)) (u : ℕ) → adding (firstOf (addTests ts c xs)) xs (heldOf c u) ≡ entered (checkedBy (firstOf ts) c) xs u
+  unfolding adding
+  entered-by xs u = ap (λ (o : Option Refusal). adding o xs (heldOf c u)) (first-added ts c xs) ∙ go (firstOf ts)
+    where
+      go : (o : Option Fault) → adding (orElse Faulty o (last c xs)) xs (heldOf c u) ≡ entered (checkedBy o c) xs u
+      go none = refl
+      go (some f) = refl
+
+  -- where tests 1 to 6 made c of the case, what entering promises is promised of c
+  module _ {s : Sheet} {k : Checked} {a : Added} (e : k ≡ checkedBy (firstOf ts) c) (g : Enters s k a) where
+    entered-gives : Gives s (adding (firstOf (addTests ts c (listOf s))) (listOf s) (heldOf c (g .upper))) (a .sheet) (placing (a .answer))
+    entered-gives = rw (entered-by (listOf s) (g .upper)) (subst (λ (j : Checked). Gives s (entered j (listOf s) (g .upper)) (a .sheet) (placing (a .answer))) e (g .gives))
+
+    entered-end : refusal (placing (a .answer)) ≡ none → UpperEnd c (g .upper)
+    entered-end z = go (firstOf ts) (subst (λ (j : Checked). EndOf j (g .upper)) e (g .ends z))
+      where
+        go : (o : Option Fault) → EndOf (checkedBy o c) (g .upper) → UpperEnd c (g .upper)
+        go none f = f
+        go (some x) f = absurd f
 
 module _ {s : Sheet} {k : Checked} {a : Added} where
-  pub frame-adds : (frame : List ℕ) → k ≡ frameChecked frame → Enters s k a → Does s (addFrame frame) (a .sheet) (placing (a .answer))
+  pub frame-adds : (frame : List ℕ) → k ≡ frameChecked frame → Enters s k a → DoesWith s (addFrame frame) (a .sheet) (placing (a .answer))
   unfolding act frameChecked
   frame-adds frame e g =
-      rw (entered-by (frameTests frame) (fieldsOf frame) (listOf s)) (rw e at g)
+      record {
+        upper = g .upper;
+        does = record { gives = entered-gives (frameTests frame) (fieldsOf frame) e g; ends = entered-end (frameTests frame) (fieldsOf frame) e g };
+      }
 
-  pub line-adds : (line : List ℕ) → k ≡ lineChecked line → Enters s k a → Does s (addLine line) (a .sheet) (placing (a .answer))
+  pub line-adds : (line : List ℕ) → k ≡ lineChecked line → Enters s k a → DoesWith s (addLine line) (a .sheet) (placing (a .answer))
   unfolding act lineChecked
   line-adds line e g =
-      rw (entered-by (lineTests line) (fieldsOf (bytesOf line)) (listOf s)) (rw e at g)
+      let c = fieldsOf (bytesOf line) in
+      record { upper = g .upper; does = record { gives = entered-gives (lineTests line) c e g; ends = entered-end (lineTests line) c e g } }
 
 -- a refusal
-abbrev pub refusedWith : Sheet → Refusal → Added
+abbrev refusedWith : Sheet → Refusal → Added
 refusedWith s r = record { sheet = s; answer = placed.Refused r }
 
-pub gives-refused : (s : Sheet) (a : Added) (r : Refusal) (x : Outcome) → a ≡ refusedWith s r → x ≡ record { list = listOf s; told = placing (placed.Refused r) }
-    → Gives s x (a .sheet) (placing (a .answer))
-gives-refused s a r x e f = rw (e, f) (record { list = refl; answer = refl; same = λ n z. refl })
+-- what is refused, whatever the end
+pub enters-refused : (s : Sheet) (a : Added) (r : Refusal) (k : Checked) → a ≡ refusedWith s r
+    → entered k (listOf s) 0 ≡ record { list = listOf s; told = placing (placed.Refused r) }
+    → Enters s k a
+enters-refused s a r k e f =
+    rw e
+    (record {
+      upper = 0;
+      gives = rw f (record { list = refl; answer = refl; same = λ n z. refl; totals = λ h. h });
+      ends = λ z. absurd (Option·none-ne-some (number r) (sym z));
+    })
 
 module _ (s : Sheet) (c : Case) (a : Added) where
-  pub by-7 : beyond c ≡ true → a ≡ refusedWith s Beyond → Adds s c a
+  pub by-7 : beyond c ≡ true → a ≡ refusedWith s Beyond → Enters s (Sound c) a
   unfolding firstOf adding
-  by-7 h e = gives-refused s a Beyond _ e (rw h)
+  by-7 h e = enters-refused s a Beyond (Sound c) e (rw h)
 
-  pub by-17 : (n : ℕ) → beyond c ≡ false → n ≡ length (listOf s) → n ≡ 64 → a ≡ refusedWith s Full → Adds s c a
+  pub by-17 : (n : ℕ) → beyond c ≡ false → n ≡ length (listOf s) → n ≡ 64 → a ≡ refusedWith s Full → Enters s (Sound c) a
   unfolding firstOf adding
-  by-17 n h f g e = gives-refused s a Full _ e (rw (h, eq-eqb (length (listOf s)) 64 (sym f ∙ g)))
+  by-17 n h f g e = enters-refused s a Full (Sound c) e (rw (h, eq-eqb (length (listOf s)) 64 (sym f ∙ g)))
 
 -- no 17: a place is left
-pub place-left : (s : Sheet) (n : ℕ) → length (s .places .all) ≡ 64 → n ≡ length (standsFor (s .places)) → (n ≡ 64 → ⊥) → n < 64
+pub place-left : (s : Sheet) (n : ℕ) → length (s .places .all) ≡ 64 → n ≡ length (listOf s) → (n ≡ 64 → ⊥) → n < 64
+unfolding listOf
 place-left s n size f g = omega (arith, stands-most (s .places) size, f, g)
 
--- a case right after the last one
-pub by-none : (s t : Sheet) (c : Case) (n : ℕ) → length (s .places .all) ≡ 64 → beyond c ≡ false → n ≡ length (listOf s) → (n ≡ 64 → ⊥)
-    → t .places .all ≡ set (s .places .all) (n + 1 - 1) (record { content = Taken c })
-    → Adds s c (record { sheet = t; answer = placed.At (n + 1) })
-unfolding firstOf adding listOf
-by-none s t c n size h f g w =
+-- no test applies: the case is taken, with an end that was found
+pub by-none : (s : Sheet) (c : Case) (a : Added) (n : ℕ) (e : Ends) → beyond c ≡ false → n ≡ length (listOf s) → (n ≡ 64 → ⊥)
+    → Ended (overpressure standardAir c) (2 ^ 24) e
+    → Gives s (adding none (listOf s) (heldOf c (e .upper))) (a .sheet) (placing (a .answer))
+    → Enters s (Sound c) a
+unfolding firstOf
+by-none s c a n e h f g found given =
+    record {
+      upper = e .upper;
+      gives = rw (h, ne-eqb (length (listOf s)) 64 (λ i. g (f ∙ i))) given;
+      ends = λ z. record { lower = e .lower; ends = wave-ends found };
+    }
+
+-- a case right after the last one, and the totals with it
+pub puts : (s t : Sheet) (h : Held) (n : ℕ) → length (s .places .all) ≡ 64 → n ≡ length (listOf s) → n < 64
+    → t .places .all ≡ set (s .places .all) (n + 1 - 1) (record { content = Taken h })
+    → t .totals ≡ afterAdding (s .totals) (t .places) (n + 1) h
+    → Gives s (adding none (listOf s) h) t (placing (placed.At (n + 1)))
+unfolding adding listOf
+puts s t h n size f l w r =
     let back : n + 1 - 1 ≡ n = omega arith in
-    rw (h, ne-eqb (length (listOf s)) 64 (λ e. g (f ∙ e)))
-    (record {
-      list = stored-next (s .places) size (t .places) n (Taken c) c refl f (place-left s n size f g) (rw back at w);
+    let list = stored-next (s .places) size (t .places) n (Taken h) h refl f l (rw back at w) in
+    record {
+      list = list;
       answer = ap (λ (m : ℕ). placing (placed.At (m + 1))) f;
       same = λ n z. absurd (Option·none-ne-some n z);
-    })
+      totals = λ right. r ∙ right-added (s .totals) (t .places) (standsFor (s .places)) right (n + 1) h list (ap (λ (m : ℕ). m + 1) f);
+    }

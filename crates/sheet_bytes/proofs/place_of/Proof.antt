@@ -22,8 +22,11 @@ part-read-end c = search needs
 read-requires : tie.Need-read-requires
 read-requires c κs = search needs
 
+four-at-requires : tie.Need-four-at-requires
+four-at-requires c κs = search needs
+
 returns-2 : tie.Need-returns-2
-returns-2 c = case-read _ _ (c .before .before .if1 .left) (c .read .ensures)
+returns-2 c = case-read _ _ (c .before .before .before .if1 .left) (c .before .read .ensures) (c .four-at .ensures .0)
 
 pub place-of-spec : {M : Type 1} → statement M
 place-of-spec =
@@ -35,4 +38,5 @@ place-of-spec =
     part-read-start
     part-read-end
     read-requires
+    four-at-requires
     returns-2)

@@ -1,4 +1,4 @@
--- `sheet_bytes::put_place` meets its contract: zeros, and over them a case. Assumes nothing.
+-- `sheet_bytes::put_place` meets its contract: zeros, and over them a case with its end. Assumes nothing.
 use mathlib.Core.Path.{refl}
 use Rattle.sheet_bytes.specs.Packing.{placeBytes}
 use Rattle.sheet_bytes.proofs.Blocks.{case-stored}
@@ -30,6 +30,9 @@ part-write-end c = search needs
 write-requires : tie.Need-write-requires
 write-requires c κs = search needs
 
+put-four-requires : tie.Need-put-four-requires
+put-four-requires c κs = search needs
+
 same-length : tie.Need-same-length
 same-length c = search needs
 
@@ -42,11 +45,12 @@ same-length-2 c = search needs
 
 returns-2 : tie.Need-returns-2
 returns-2 c =
-    let written = c .before .before in
+    let ended = c .before .before in
+    let written = ended .before .before .before .before in
     let tagged = written .before .before .before .before in
     let known = tagged .before .before .before in
     rw (known .content .given .1)
-    (case-stored _ _ _ _ 22 refl (known .before .before .before .before .clear .ensures) (tagged .put-one .ensures) (written .write .ensures))
+    (case-stored _ _ _ _ _ 22 refl (known .before .before .before .before .clear .ensures) (tagged .put-one .ensures) (written .write .ensures) (ended .put-four .ensures))
 
 pub put-place-spec : {M : Type 1} → statement M
 put-place-spec =
@@ -60,6 +64,7 @@ put-place-spec =
     part-write-start
     part-write-end
     write-requires
+    put-four-requires
     same-length
     returns
     same-length-2

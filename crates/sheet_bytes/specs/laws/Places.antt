@@ -1,45 +1,50 @@
 -- The bytes of places: how many, one place more, and read back. Assumes nothing.
-use Prim.Native.Nat.{ℕ, zero, suc, _+_, _*_}
+use Prim.Native.Nat.{ℕ, zero, suc, _+_, _*_, _^_, _<_}
 use mathlib.Core.Path.{_≡_, refl, sym, ap, _∙_}
 use mathlib.Core.List.{List, [], _∷_, _++_, append-assoc, append-nil}
 use mathlib.Core.Option.{Option, none, some}
 use native.Mathlib.Omega.{arith}
-use lib.ListN.{length, take, drop, replicate, length-append}
+use lib.ListN.{length, take, drop, length-append}
 use lib.Seq.{take-at, drop-at, drop-drop}
 use borrow.Author.Tests.{eq-eqb, ne-eqb}
-use Rattle.guidance.specs.declared.Case.{Case}
 use Rattle.guidance.specs.Cases.{Fields}
-use Rattle.bytes.specs.Numbers.{oneAt, one}
-use Rattle.fields.specs.Bytes.{fieldsOf, frameBytes}
-use Rattle.fields.specs.laws.Back.{frame-length, fields-again}
+use Rattle.bytes.specs.Numbers.{oneAt, fourAt, one, two, four}
+use Rattle.bytes.specs.laws.Back.{four-back}
+use Rattle.fields.specs.Bytes.{fieldsOf, settings, frameBytes}
+use Rattle.fields.specs.laws.Back.{fields-again}
+use Rattle.places.specs.declared.Held.{Held}
 use Rattle.places.specs.Holes.{Each}
-use Rattle.sheet_bytes.specs.Packing.{placeBytes, packed, caseIn, unpacked}
+use Rattle.sheet_bytes.specs.Packing.{placeBytes, packed, heldIn, unpacked}
 
-pub length-place : (x : Option Case) → length (placeBytes x) ≡ 32
-unfolding placeBytes one
+-- what its bytes have room for: fields in their values, an end below 2^32
+pub record Fits (h : Held) : Type 0 where
+  pub fields : Fields (h .case)
+  pub upper : h .upper < 2 ^ 32
+
+pub length-place : (x : Option Held) → length (placeBytes x) ≡ 32
+unfolding placeBytes frameBytes settings one two four
 length-place none = refl
-length-place (some c) =
-    omega (arith, length-append (one 1 ++ frameBytes c) (replicate 9 0), length-append (one 1) (frameBytes c), frame-length c)
+length-place (some h) = refl
 
-pub length-packed : (xs : List (Option Case)) → length (packed xs) ≡ 32 * length xs
+pub length-packed : (xs : List (Option Held)) → length (packed xs) ≡ 32 * length xs
 unfolding packed
 length-packed [] = refl
 length-packed (x ∷ xs) = omega (arith, length-append (placeBytes x) (packed xs), length-place x, length-packed xs)
 
 -- one place more
-pub packed-next : (xs : List (Option Case)) (x : Option Case) → packed (xs ++ (x ∷ [])) ≡ packed xs ++ placeBytes x
+pub packed-next : (xs : List (Option Held)) (x : Option Held) → packed (xs ++ (x ∷ [])) ≡ packed xs ++ placeBytes x
 unfolding packed
 packed-next [] x = append-nil (placeBytes x)
 packed-next (y ∷ xs) x = ap (λ (t : List ℕ). placeBytes y ++ t) (packed-next xs x) ∙ sym (append-assoc (placeBytes y) (packed xs) (placeBytes x))
 
-pub unpacked-next : (n : ℕ) (s : List ℕ) → unpacked (suc n) s ≡ unpacked n s ++ (caseIn (take 32 (drop (32 * n) s)) ∷ [])
+pub unpacked-next : (n : ℕ) (s : List ℕ) → unpacked (suc n) s ≡ unpacked n s ++ (heldIn (take 32 (drop (32 * n) s)) ∷ [])
 unfolding unpacked
 unpacked-next zero s = refl
 unpacked-next (suc n) s =
     let e : 32 + 32 * n ≡ 32 * suc n = omega arith in
-    ap (λ (t : List (Option Case)). caseIn (take 32 s) ∷ t)
+    ap (λ (t : List (Option Held)). heldIn (take 32 s) ∷ t)
     (unpacked-next n (drop 32 s)
-    ∙ ap (λ (l : List ℕ). unpacked n (drop 32 s) ++ (caseIn (take 32 l) ∷ [])) (drop-drop (32 * n) 32 s ∙ ap (λ (k : ℕ). drop k s) e))
+    ∙ ap (λ (l : List ℕ). unpacked n (drop 32 s) ++ (heldIn (take 32 l) ∷ [])) (drop-drop (32 * n) 32 s ∙ ap (λ (k : ℕ). drop k s) e))
 
 pub length-unpacked : (n : ℕ) (s : List ℕ) → length (unpacked n s) ≡ n
 unfolding unpacked
@@ -47,26 +52,29 @@ length-unpacked zero s = refl
 length-unpacked (suc n) s = ap suc (length-unpacked n (drop 32 s))
 
 -- what a place's bytes are read as
-pub hole-read : (place : List ℕ) → oneAt place 0 ≡ 0 → none ≡ caseIn place
-unfolding caseIn
+pub hole-read : (place : List ℕ) → oneAt place 0 ≡ 0 → none ≡ heldIn place
+unfolding heldIn
 hole-read place e = simp (eq-eqb (oneAt place 0) 0 e)
 
-pub case-read : (place : List ℕ) (c : Case) → (oneAt place 0 ≡ 0 → ⊥) → c ≡ fieldsOf (take 22 (drop 1 place)) → some c ≡ caseIn place
-unfolding caseIn
-case-read place c e f = rw f (simp (ne-eqb (oneAt place 0) 0 e))
+pub case-read
+    : (place : List ℕ) (h : Held) →
+    (oneAt place 0 ≡ 0 → ⊥) →
+    h .case ≡ fieldsOf (take 22 (drop 1 place)) →
+    h .upper ≡ fourAt place 23 →
+    some h ≡ heldIn place
+unfolding heldIn
+case-read place h e f g = rw (ne-eqb (oneAt place 0) 0 e) (λ k. some (record { case = f k; upper = g k }))
 
--- what was packed is read back, of cases with their fields in their values
+-- what was packed is read back
 
-place-back : (x : Option Case) → (xs : List (Option Case)) → Each Fields (x ∷ xs) → (caseIn (placeBytes x) ≡ x) × Each Fields xs
-unfolding placeBytes caseIn one Each
-place-back none xs h = (refl, h)
+place-back : (x : Option Held) → (xs : List (Option Held)) → Each Fits (x ∷ xs) → (heldIn (placeBytes x) ≡ x) × Each Fits xs
+unfolding placeBytes frameBytes settings one two four Each
+place-back none xs h = (sym (hole-read (placeBytes none) refl), h)
 place-back (some c) xs h =
-    (sym (case-read (placeBytes (some c)) c (λ e. omega arith) (sym (ap fieldsOf frame ∙ fields-again c (h .0)))), h .1)
-  where
-    frame : take 22 (drop 1 (placeBytes (some c))) ≡ frameBytes c
-    frame = take-at (frameBytes c) (replicate 9 0) 22 (frame-length c)
+    let frame : fieldsOf (frameBytes (c .case)) ≡ c .case = fields-again (c .case) (h .0 .fields) in
+    (sym (case-read (placeBytes (some c)) c (λ e. omega arith) (sym frame) (sym (four-back (c .upper) (h .0 .upper)))), h .1)
 
-pub unpack-packed : (xs : List (Option Case)) (rest : List ℕ) → Each Fields xs → unpacked (length xs) (packed xs ++ rest) ≡ xs
+pub unpack-packed : (xs : List (Option Held)) (rest : List ℕ) → Each Fits xs → unpacked (length xs) (packed xs ++ rest) ≡ xs
 unfolding unpacked packed
 unpack-packed [] rest f = refl
 unpack-packed (x ∷ xs) rest f =

@@ -9,7 +9,7 @@ use lib.Dec.{leb}
 use borrow.Author.Tests.{leb-true, leb-false}
 use Rattle.frame.specs.Verdicts.{lineVerdict}
 use Rattle.frame.specs.laws.Verdicts.{line-length}
-use Rattle.text.specs.laws.Settled.{settle}
+use Rattle.exact.specs.laws.Tests.{settle}
 use Rattle.text.specs.Records.{Record}
 
 pub verdict-capped : (line : List ℕ) (room : ℕ) → lineVerdict (take 45 line) room ≡ lineVerdict line room

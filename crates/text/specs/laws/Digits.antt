@@ -7,7 +7,7 @@ use native.Mathlib.Omega.{arith}
 use lib.ListN.{length, length-append}
 use lib.Dec.{ltb}
 use borrow.Author.Tests.{ltb-true, ltb-false}
-use Rattle.text.specs.laws.Settled.{settle}
+use Rattle.exact.specs.laws.Tests.{settle}
 use Rattle.text.specs.Digits.{places, decimal}
 
 places-none : (k : ℕ) → places k 0 ≡ []

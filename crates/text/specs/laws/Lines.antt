@@ -7,7 +7,7 @@ use native.Mathlib.Nat.{not-suc-le-zero, le-of-suc-le-suc}
 use lib.ListN.{length, take}
 use lib.Dec.{eqb}
 use borrow.Author.Tests.{eqb-true, eq-eqb, ne-eqb}
-use Rattle.text.specs.laws.Settled.{settle}
+use Rattle.exact.specs.laws.Tests.{settle}
 use Rattle.text.specs.Lines.{lf, ended, left}
 use Rattle.text.specs.Feeding.{endOf}
 

@@ -21,7 +21,7 @@ returns c = ap foundIn (sym (ap contentOf (c .enum-told .given .1)) ∙ c .befor
 
 returns-2 : tie.Need-returns-2
 unfolding found listOf
-returns-2 c = ap foundIn (sym (ap contentOf (c .before .content .given .1)) ∙ c .before .before .before .content-at .ensures)
+returns-2 c = ap foundIn (sym (ap contentOf (c .before .before .content .given .1)) ∙ c .before .before .before .before .content-at .ensures)
 
 pub case-at-spec : {M : Type 1} → statement M
 case-at-spec =

@@ -7,11 +7,14 @@ use Rattle.sheet.proofs.Sheet.close.Tie as tie
 close-requires : tie.Need-close-requires
 close-requires c κs = search needs
 
+afresh-requires : tie.Need-afresh-requires
+afresh-requires c κs = search needs
+
 last-requires : tie.Need-last-requires
 last-requires c κs = search needs
 
 returns : tie.Need-returns
-returns c = closes _ _ _ (c .before .close .ensures) (c .last .ensures)
+returns c = closes _ _ _ (c .before .before .close .ensures) (c .last .ensures) (c .before .afresh .ensures)
 
 pub close-spec : {M : Type 1} → statement M
-close-spec = tie.close (tie.spec close-requires last-requires returns)
+close-spec = tie.close (tie.spec close-requires afresh-requires last-requires returns)

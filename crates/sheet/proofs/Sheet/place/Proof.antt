@@ -1,6 +1,6 @@
--- `sheet::Sheet::place` meets its contract: tests 7 and 17 in their order, then the place after the last. Assumes nothing.
+-- `sheet::Sheet::place` meets its contract: tests 7 and 17 in their order, then the case with its end. Assumes nothing.
 use mathlib.Core.Path.{sym, _∙_}
-use native.Mathlib.Omega.{arith}
+use Rattle.guidance.specs.laws.Domain.{accepted, standard}
 use Rattle.places.specs.laws.Contents.{unmapped}
 use Rattle.sheet.specs.Operations.{listOf}
 use Rattle.sheet.specs.laws.Entering.{by-7, by-17, place-left, by-none}
@@ -29,28 +29,20 @@ returns-2 c =
     let tested = c .before .before .before in
     by-17 _ _ _ (tested .before .last .result) (sym (tested .is-beyond .ensures) ∙ c .before .before .if1 .left) (tested .before .last .ensures) (c .before .if2 .taken) (c .refused2 .ensures)
 
-add-with : tie.Need-add-with
-add-with c =
-    let counted = c .before .before .before .last in
-    omega (arith, place-left (c .before .before .before .before .args .self) _ (search (needs, unmapped)) (counted .ensures) (c .if2 .left))
+pressure-requires : tie.Need-pressure-requires
+pressure-requires c κs = let tested = c .before .before in
+    (accepted (tested .before .before .pre) (sym (tested .is-beyond .ensures) ∙ c .before .if1 .left), standard)
 
-with-requires : tie.Need-with-requires
-with-requires c κs =
-    let counted = c .before .before .before .last in
-    let left = place-left (c .before .before .before .before .args .self) _ (search (needs, unmapped)) (counted .ensures) (c .if2 .left) in
-    (omega arith, omega (arith, left))
-
-add-t8 : tie.Need-add-t8
-add-t8 c =
-    let counted = c .before .before .before .before .last in
-    omega (arith, place-left (c .before .before .before .before .before .args .self) _ (search (needs, unmapped)) (counted .ensures) (c .before .if2 .left))
+put-requires : tie.Need-put-requires
+unfolding listOf
+put-requires c κs = let counted = c .before .before .before .before in
+    (counted .last .ensures, place-left (counted .before .args .self) _ (search (needs, unmapped)) (counted .last .ensures) (c .before .if2 .left))
 
 returns-3 : tie.Need-returns-3
 unfolding listOf
-returns-3 c =
-    let tested = c .before .before .before in
-    by-none (tested .before .before .args .self) _ _ _ (search (needs, unmapped)) (sym (tested .is-beyond .ensures) ∙ c .before .before .if1 .left)
-    (tested .before .last .ensures) (c .before .if2 .left) (c .with .ensures)
+returns-3 c = let tested = c .before .before .before .before in
+    by-none _ _ _ (tested .before .last .result) _ (sym (tested .is-beyond .ensures) ∙ c .before .before .before .if1 .left) (tested .before .last .ensures) (c .before .before .if2 .left)
+    (c .before .pressure .ensures) (c .put .ensures)
 
 pub place-spec : {M : Type 1} → statement M
 place-spec =
@@ -62,7 +54,6 @@ place-spec =
     returns
     refused-requires-2
     returns-2
-    add-with
-    with-requires
-    add-t8
+    pressure-requires
+    put-requires
     returns-3)
