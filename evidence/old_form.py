@@ -392,7 +392,7 @@ def known():
         yield IN, AREA, line
     for line in (PROPANE, PROPANE.lower()):
         yield BACK, AREA, line
-    for case in (Q, changed(Q, r=10**6), changed(CASE, body=95), changed(CASE, mass=0xABCDEF, c=0xFED, s=0xCBA, heat=0xBCDE, r=0xFEDCB)):
+    for case in (Q, changed(Q, r=10**6), changed(CASE, body=95), changed(CASE, mass=0xABCDEF, c=0xFED, s=0xCBA, heat=0xBCDE, r=0xEFABC)):
         yield from both_ways(case)
 
 

@@ -1,5 +1,6 @@
 /* Calls Yakepuhi from C: a case as a line and as a frame's bytes, its overpressure and its impulse alone, its rules,
-   its rings, its line in the old form, what every refusal but a sheet's is called, each printed in readable form. */
+   its rings, its line in the old form, its frame from ten numbers, its spelling, what every refusal but a sheet's is called, each printed in
+   readable form. */
 #include "yakepuhi.h"
 
 #include <inttypes.h>
@@ -132,6 +133,74 @@ static void ask_old_line(const char *title, const char *line)
     print_kept(area, 0, sizeof area);
 }
 
+enum { LINE_AREA = YAKEPUHI_LINE + 4 };
+
+typedef uint64_t speller(const uint8_t *given, size_t length, uint8_t *area, size_t room);
+
+/* The spelling of a line or of a frame's bytes, and the spelling of that text. */
+static void ask_spelling(const char *title, speller *spell, const void *given, size_t length, size_t room)
+{
+    uint8_t area[LINE_AREA], again[LINE_AREA];
+    memset(area, MARK, sizeof area);
+    memset(again, MARK, sizeof again);
+    uint64_t refusal = spell(given, length, area, room);
+    printf("%s: %s\n", title, words[refusal]);
+    if (refusal == 0)
+        printf("  %.*s\n", YAKEPUHI_LINE, (const char *)area);
+    print_kept(area, refusal == 0 ? YAKEPUHI_LINE : 0, sizeof area);
+    if (refusal != 0)
+        return;
+    refusal = yakepuhi_spell_line(area, YAKEPUHI_LINE, again, YAKEPUHI_LINE);
+    printf("spelled again: %s, %s\n", words[refusal], memcmp(area, again, YAKEPUHI_LINE) == 0 ? "the same" : "another");
+    print_kept(again, YAKEPUHI_LINE, sizeof again);
+}
+
+/* The frame of the case's ten numbers, three of them to choose, and its spelling. */
+static void ask_fields(const char *title, const uint8_t *frame, uint64_t substance, uint64_t mass, uint64_t heat, size_t room)
+{
+    uint8_t area[LINE_AREA];
+    memset(area, MARK, sizeof area);
+    uint64_t refusal = yakepuhi_frame_from_fields(substance, 0, 1, 4, mass, 1400, 770, heat, 10000, 70, area, room);
+    printf("%s: %s\n", title, words[refusal]);
+    if (refusal == 0) {
+        printf("  ");
+        for (int i = 0; i < YAKEPUHI_FRAME; i++)
+            printf("%02X", area[i]);
+        printf(", %s\n", memcmp(frame, area, YAKEPUHI_FRAME) == 0 ? "the same frame" : "another frame");
+    }
+    print_kept(area, refusal == 0 ? YAKEPUHI_FRAME : 0, sizeof area);
+    if (refusal == 0)
+        ask_spelling("its spelling", yakepuhi_spell_frame, area, YAKEPUHI_FRAME, LINE_AREA);
+}
+
+/* Frames from numbers, and spellings from bytes and from lines. */
+static void ask_writing(const char *line, const uint8_t *frame)
+{
+    ask_fields("its frame from ten numbers", frame, 17, 8000000, 46400, LINE_AREA);
+    ask_fields("its frame with the table's heat", frame, 17, 8000000, 46200, LINE_AREA);
+    ask_fields("its frame with heat 0, an area of 22 bytes", frame, 17, 8000000, 0, YAKEPUHI_FRAME);
+    ask_fields("its frame with 2^32 g more", frame, 17, 8000000 + (UINT64_C(1) << 32), 46400, LINE_AREA);
+    ask_fields("its frame, unlisted, without a heat", frame, 0, 8000000, 0, LINE_AREA);
+    ask_fields("its frame, an area of 21 bytes", frame, 17, 8000000, 46400, YAKEPUHI_FRAME - 1);
+    ask_spelling("its spelling, an area of 43 bytes", yakepuhi_spell_frame, frame, YAKEPUHI_FRAME, YAKEPUHI_LINE - 1);
+    ask_spelling("its line in small letters, spelled", yakepuhi_spell_line, "11000104007a1200057803020000b540000027100046", YAKEPUHI_LINE, LINE_AREA);
+    ask_spelling("its line with the table's heat, spelled", yakepuhi_spell_line, "11000104007A1200057803020000B478000027100046", YAKEPUHI_LINE, LINE_AREA);
+    ask_spelling("its line with a G, spelled", yakepuhi_spell_line, "11000104007A1200057803020000B54000002710004G", YAKEPUHI_LINE, LINE_AREA);
+    ask_spelling("its line, spelled, an area of 43 bytes", yakepuhi_spell_line, line, YAKEPUHI_LINE, YAKEPUHI_LINE - 1);
+}
+
+/* The case near and far, in surroundings where each of the four rules counts. */
+static void ask_all_rules(const uint8_t *frame)
+{
+    ask_rules(frame, 1, 30);
+    ask_rules(frame, 1, 100);
+    ask_rules(frame, 2, 50);
+    ask_rules(frame, 4, 50);
+    ask_rules(frame, 4, 100);
+    ask_rules(frame, 4, 500);
+    ask_rules(frame, 4, 10000);
+}
+
 int main(void)
 {
     /* 8 t of propane on the ground, 100 m away */
@@ -156,13 +225,7 @@ int main(void)
     printf("its overpressure alone: %s\n  %" PRIu64 " to %" PRIu64 " Pa\n", words[refusal], lower, upper);
     refusal = yakepuhi_impulse(frame, sizeof frame, &lower, &upper);
     printf("its impulse alone: %s\n  %" PRIu64 " to %" PRIu64 " Pa s\n", words[refusal], lower, upper);
-    ask_rules(frame, 1, 30);
-    ask_rules(frame, 1, 100);
-    ask_rules(frame, 2, 50);
-    ask_rules(frame, 4, 50);
-    ask_rules(frame, 4, 100);
-    ask_rules(frame, 4, 500);
-    ask_rules(frame, 4, 10000);
+    ask_all_rules(frame);
     ask_ring(line, frame, 28000);
     ask_ring(line, frame, 5000);
     ask_ring(line, frame, 1000);
@@ -177,5 +240,6 @@ int main(void)
                  "11000104" "0140BF400000000000" "024061800000000000" "034053400000000000" "044047333333333333" "054059000000000000" "074051800000000000");
     ask_old_line("an old line with a distance of -100 m",
                  "11000104" "0140BF400000000000" "024061800000000000" "034053400000000000" "044047333333333333" "05C059000000000000" "064051800000000000");
+    ask_writing(line, frame);
     return 0;
 }

@@ -1,5 +1,6 @@
 { Calls Yakepuhi from Free Pascal: a case as a line and as a frame's bytes, its overpressure and its impulse alone, its rules,
-  its rings, its line in the old form, what every refusal but a sheet's is called, each printed in readable form. }
+  its rings, its line in the old form, its frame from ten numbers, its spelling, what every refusal but a sheet's is called, each printed in
+  readable form. }
 program example;
 
 {$mode objfpc}{$H+}
@@ -8,6 +9,7 @@ program example;
 
 const
   AnswerBytes = 77;
+  LineCharacters = 44;
   OldCharacters = 116;
   Mark = $EE;
   GreatestThreshold = 1823400;
@@ -34,6 +36,8 @@ const
 type
   TArea = array[0..AnswerBytes + 2] of Byte;
   TOldArea = array[0..OldCharacters + 3] of Byte;
+  TLineArea = array[0..LineCharacters + 3] of Byte;
+  TSpeller = function(given: PByte; count: SizeUInt; area: PByte; areaLength: SizeUInt): QWord; cdecl;
 
 { The promises of these are in yakepuhi.h. }
 function yakepuhi_from_line(line: PByte; lineLength: SizeUInt; area: PByte; areaLength: SizeUInt): QWord; cdecl; external;
@@ -45,6 +49,10 @@ function yakepuhi_ring_from_frame(frame: PByte; frameLength: SizeUInt; threshold
 function yakepuhi_ring_from_line(line: PByte; lineLength: SizeUInt; threshold: QWord; inner, outer: PQWord): QWord; cdecl; external;
 function yakepuhi_frame_from_old(line: PByte; lineLength: SizeUInt; area: PByte; areaLength: SizeUInt): QWord; cdecl; external;
 function yakepuhi_old_from_frame(frame: PByte; frameLength: SizeUInt; area: PByte; areaLength: SizeUInt): QWord; cdecl; external;
+function yakepuhi_frame_from_fields(substance, state, placement, surroundings, mass, mean, stoichiometric, heat, distance, body: QWord;
+  area: PByte; areaLength: SizeUInt): QWord; cdecl; external;
+function yakepuhi_spell_frame(frame: PByte; frameLength: SizeUInt; area: PByte; areaLength: SizeUInt): QWord; cdecl; external;
+function yakepuhi_spell_line(line: PByte; lineLength: SizeUInt; area: PByte; areaLength: SizeUInt): QWord; cdecl; external;
 
 function Two(const a: TArea; at: Integer): LongWord;
 begin
@@ -212,6 +220,79 @@ begin
   PrintKept(area, 0);
 end;
 
+{ The spelling of a line or of a frame's bytes, and the spelling of that text. }
+procedure AskSpelling(const title: string; spell: TSpeller; given: PByte; count, room: SizeUInt);
+var
+  area, again: TLineArea;
+  refusal: QWord;
+  text, other: string;
+begin
+  FillChar(area, SizeOf(area), Mark);
+  FillChar(again, SizeOf(again), Mark);
+  refusal := spell(given, count, @area[0], room);
+  WriteLn(title, ': ', Words[refusal]);
+  if refusal <> 0 then
+  begin
+    PrintKept(area, 0);
+    Exit;
+  end;
+  SetString(text, PChar(@area[0]), LineCharacters);
+  WriteLn('  ', text);
+  PrintKept(area, LineCharacters);
+  refusal := yakepuhi_spell_line(@area[0], LineCharacters, @again[0], LineCharacters);
+  other := 'another';
+  if CompareByte(area, again, LineCharacters) = 0 then other := 'the same';
+  WriteLn('spelled again: ', Words[refusal], ', ', other);
+  PrintKept(again, LineCharacters);
+end;
+
+{ The frame of the case's ten numbers, three of them to choose, and its spelling. }
+procedure AskFields(const title: string; substance, mass, heat: QWord; room: SizeUInt);
+var
+  area: TLineArea;
+  refusal: QWord;
+  other: string;
+  i: Integer;
+begin
+  FillChar(area, SizeOf(area), Mark);
+  refusal := yakepuhi_frame_from_fields(substance, 0, 1, 4, mass, 1400, 770, heat, 10000, 70, @area[0], room);
+  WriteLn(title, ': ', Words[refusal]);
+  if refusal <> 0 then
+  begin
+    PrintKept(area, 0);
+    Exit;
+  end;
+  Write('  ');
+  for i := 0 to High(Frame) do
+    Write(HexStr(area[i], 2));
+  other := 'another frame';
+  if CompareByte(Frame, area, SizeOf(Frame)) = 0 then other := 'the same frame';
+  WriteLn(', ', other);
+  PrintKept(area, SizeOf(Frame));
+  AskSpelling('its spelling', @yakepuhi_spell_frame, @area[0], SizeOf(Frame), SizeOf(area));
+end;
+
+procedure AskLineSpelling(const title, text: string; room: SizeUInt);
+begin
+  AskSpelling(title, @yakepuhi_spell_line, PByte(PChar(text)), Length(text), room);
+end;
+
+{ Frames from numbers, and spellings from bytes and from lines. }
+procedure AskWriting;
+begin
+  AskFields('its frame from ten numbers', 17, 8000000, 46400, SizeOf(TLineArea));
+  AskFields('its frame with the table''s heat', 17, 8000000, 46200, SizeOf(TLineArea));
+  AskFields('its frame with heat 0, an area of 22 bytes', 17, 8000000, 0, SizeOf(Frame));
+  AskFields('its frame with 2^32 g more', 17, 8000000 + QWord(1) shl 32, 46400, SizeOf(TLineArea));
+  AskFields('its frame, unlisted, without a heat', 0, 8000000, 0, SizeOf(TLineArea));
+  AskFields('its frame, an area of 21 bytes', 17, 8000000, 46400, SizeOf(Frame) - 1);
+  AskSpelling('its spelling, an area of 43 bytes', @yakepuhi_spell_frame, @Frame[0], SizeOf(Frame), LineCharacters - 1);
+  AskLineSpelling('its line in small letters, spelled', '11000104007a1200057803020000b540000027100046', SizeOf(TLineArea));
+  AskLineSpelling('its line with the table''s heat, spelled', '11000104007A1200057803020000B478000027100046', SizeOf(TLineArea));
+  AskLineSpelling('its line with a G, spelled', '11000104007A1200057803020000B54000002710004G', SizeOf(TLineArea));
+  AskLineSpelling('its line, spelled, an area of 43 bytes', Line, LineCharacters - 1);
+end;
+
 var
   lower, upper, refusal: QWord;
   i: Integer;
@@ -247,4 +328,5 @@ begin
     '11000104' + '0140BF400000000000' + '024061800000000000' + '034053400000000000' + '044047333333333333' + '054059000000000000' + '074051800000000000');
   AskOldLine('an old line with a distance of -100 m',
     '11000104' + '0140BF400000000000' + '024061800000000000' + '034053400000000000' + '044047333333333333' + '05C059000000000000' + '064051800000000000');
+  AskWriting;
 end.

@@ -6,8 +6,9 @@
 
    Every function gives 0 for what it accepts, else the number of the first refusal that applies, in this order:
    1 length, 2 digit, for an old line 15 tag, 16 double, then 3 substance, 12 state, 13 placement, 14 surroundings, 5 quantity, 6 heat;
-   then for an answer and its rules 7 beyond, 8 space, for a ring 9 threshold, 10 weak, 11 strong, for the old form 8 space, for a case that is
-   added to a sheet 7 beyond, 8 space, 17 full. A place of a sheet is refused by 8 space and 18 vacant alone, closing and totals by 8 alone.
+   then for an answer and its rules 7 beyond, 8 space, for a ring 9 threshold, 10 weak, 11 strong, for the old form, for a frame from its fields
+   and for a spelling 8 space, for a case that is added to a sheet 7 beyond, 8 space, 17 full. A place of a sheet is refused by 8 space and
+   18 vacant alone, closing and totals by 8 alone.
    4, which stood for all of 12 to 14, is retired: no function gives it.
    After a refusal everything that was lent for writing has the bytes that it had.
 
@@ -92,6 +93,23 @@ uint64_t yakepuhi_frame_from_old(const uint8_t *line, size_t line_length, uint8_
    bytes, each double the nearest to its fraction. Taken in again they give the frame that was given. 8: the area has fewer than 116 bytes.
    It never gives 2, 7, 15 or 16. */
 uint64_t yakepuhi_old_from_frame(const uint8_t *frame, size_t frame_length, uint8_t *area, size_t area_length);
+
+/* The frame of ten numbers, in the order and the units of a frame: substance by its number, state, placement, surroundings, mass in g, mean and
+   stoichiometric concentration in tenths of g/m3, heat in J/g or 0 for the table's, distance in cm, body mass in kg. Accepted, it writes the
+   frame's 22 bytes at the start of the area and no others; read from them, the fields are the numbers that were given. 3, 12 to 14, 5 and 6 look
+   at the numbers as they are given: one that is too large for its field's bytes is outside its values, and is never cut.
+   8: the area has fewer than 22 bytes. It never gives 1, 2 or 7: the case may be beyond. */
+uint64_t yakepuhi_frame_from_fields(uint64_t substance, uint64_t state, uint64_t placement, uint64_t surroundings, uint64_t mass, uint64_t mean,
+                                    uint64_t stoichiometric, uint64_t heat, uint64_t distance, uint64_t body, uint8_t *area, size_t area_length);
+
+/* The one spelling of a case given as the bytes of a frame: accepted, it writes 44 upper-case digits at the start of the area and no other bytes:
+   the frame's digits, with heat 0 in the place of the table's own heat. Spelled again they give themselves. Two cases have one spelling exactly
+   where all their numbers are equal but the given heats, and the effective heats are: texts can be compared in the place of cases.
+   8: the area has fewer than 44 bytes. It never gives 2 or 7: the case may be beyond. */
+uint64_t yakepuhi_spell_frame(const uint8_t *frame, size_t frame_length, uint8_t *area, size_t area_length);
+
+/* The same for a case given as a line of 44 hexadecimal digits of either letter case, without its LF; it also gives 2. */
+uint64_t yakepuhi_spell_line(const uint8_t *line, size_t line_length, uint8_t *area, size_t area_length);
 
 /* The bytes of a study sheet, and how many places it has; they are counted from 1. */
 #define YAKEPUHI_SHEET 2048

@@ -1,4 +1,4 @@
--- Tests 1 to 6, which every entry has, and test 7 (document 01, "Refused cases").
+-- Tests 1 to 6, which every entry has that takes a frame or a line, and test 7 (document 01, "Refused cases").
 use Prim.Native.Nat.{ℕ}
 use mathlib.Core.Bool.{Bool, not}
 use mathlib.Core.List.{List, _∷_}

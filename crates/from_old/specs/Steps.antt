@@ -1,5 +1,5 @@
 -- What the steps of the way in promise one another.
-use Prim.Native.Nat.{ℕ, _≤_}
+use Prim.Native.Nat.{ℕ}
 use mathlib.Core.Path.{_≡_}
 use mathlib.Core.Bool.{false, cond}
 use mathlib.Core.List.{List}
@@ -12,7 +12,7 @@ use Rattle.limits.specs.declared.Checked.{Checked}
 use Rattle.limits.specs.Checks.{checkedBy}
 use Rattle.writable.specs.declared.Verdict as writable
 use Rattle.writable.specs.declared.Verdict.the-variants as written
-use Rattle.writable.specs.Verdicts.{placed}
+use Rattle.writable.specs.Steps.{placed}
 use Rattle.old_case.specs.declared.OldCase.{OldCase}
 use Rattle.old_case.specs.Cases.{unusableIn, caseOf}
 use Rattle.old_bytes.specs.Bytes.{oldOf, misplaced}
@@ -51,13 +51,9 @@ heldBy (written.Refused r) = Refused (Unwritten r)
 
 -- what reading found stands, else tests 3 to 6 and 8 decide
 abbrev pub judged : Reading → (room : ℕ) → Verdict
-judged (Old o) room = heldBy (placed (wholesChecked o) 22 room)
+judged (Old o) room = heldBy (placed (wholesChecked o) (λ (c : Case). 22) room)
 judged (Unread r) room = Refused r
 
--- an accepted line has room for its frame
-abbrev pub RoomFor : Verdict → (area : List ℕ) → Type 0
-RoomFor v area = (c : Case) → v ≡ Accepted c → 22 ≤ length area
-
-pub record Entered (v : Verdict) (before : List ℕ) (r : Verdict) (after : List ℕ) : Type 0 where
-  pub verdict : r ≡ v
-  pub area : after ≡ withFrame r before
+pub record Entered (r : Reading) (before : List ℕ) (v : Verdict) (after : List ℕ) : Type 0 where
+  pub verdict : v ≡ judged r (length before)
+  pub area : after ≡ withFrame v before

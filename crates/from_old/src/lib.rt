@@ -6,14 +6,11 @@ ghost use Rattle.refusals.specs.Faults.{filled};
 ghost use Rattle.old_case.specs.Cases.{unusableIn};
 ghost use Rattle.from_old.specs.Refusals.{number, code, word};
 ghost use Rattle.from_old.specs.Entry.{FromLine};
-ghost use Rattle.from_old.specs.Steps.{bytesReading, lineReading, UsableIfOld, wholesChecked, heldBy, judged, RoomFor, Entered};
+ghost use Rattle.from_old.specs.Steps.{bytesReading, lineReading, UsableIfOld, wholesChecked, heldBy, Entered};
 use guidance::Case;
 use limits::Checked;
 use old_case::OldCase;
 use refusals::Fault;
-
-// The bytes of a case frame.
-const FRAME: usize = 22;
 
 // The characters of an old line.
 const LINE: usize = 116;
@@ -117,28 +114,14 @@ fn held(v: writable::Verdict) -> Verdict
     }
 }
 
-// What reading found stands, else tests 3 to 6 and 8 decide.
-fn judge(r: Reading, room: usize) -> Verdict
+// What reading found stands, else tests 3 to 6 and 8 decide, and an accepted line's frame is written.
+fn enter(r: Reading, area: &mut [u8]) -> Verdict
     requires { ⌜ UsableIfOld r ⌝ }
-    ensures { λ v. ⌜ v ≡ judged r room ⌝ }
+    ensures { λ v. ⌜ Entered r (now (area .entry)) v (now (area .exit)) ⌝ }
 {
     match r {
-        Reading::Old(o) => held(writable::place(check(o), FRAME, room)),
+        Reading::Old(o) => held(writable::write_frame(check(o), area)),
         Reading::Unread(u) => Verdict::Refused(u),
-    }
-}
-
-// What the verdict asks of the area.
-fn enter(v: Verdict, area: &mut [u8]) -> Verdict
-    requires { ⌜ RoomFor v (now area) ⌝ }
-    ensures { λ r. ⌜ Entered v (now (area .entry)) r (now (area .exit)) ⌝ }
-{
-    match v {
-        Verdict::Accepted(c) => {
-            fields::write(area, c);
-            Verdict::Accepted(c)
-        }
-        Verdict::Refused(r) => Verdict::Refused(r),
     }
 }
 
@@ -147,6 +130,5 @@ pub fn from_line(line: &[u8], area: &mut [u8]) -> Verdict
     ensures { λ r. ⌜ FromLine (now (line .entry)) (now (area .entry)) r (now (area .exit)) ⌝ }
 {
     let r = read_line(line);
-    let v = judge(r, area.len());
-    enter(v, area)
+    enter(r, area)
 }

@@ -2,13 +2,12 @@
 // Its stored output is that of a separate calculation.
 ghost use Prim.Native.Nat.{_≤_};
 ghost use lib.ListN.{length};
+use areas::MARK;
 use libc::STDIN_FILENO;
 use libc::STDOUT_FILENO;
 
-// The area that parts are lent of, and what each of its bytes holds before a request.
+// The area that parts are lent of.
 const AREA: usize = 120;
-
-const MARK: u8 = 0x5f;
 
 fn print(text: &[u8]) {
     io::write_all(STDOUT_FILENO, text);
@@ -18,53 +17,13 @@ fn print_number(n: u64) {
     io::print_decimal(STDOUT_FILENO, n);
 }
 
-fn min(a: u64, b: usize) -> usize
-    ensures { λ r. ⌜ r ≤ b ⌝ }
-{
-    let most = b as u64;
-    if a < most { a as usize } else { b }
-}
-
-// How many bytes there are up to the last that is no mark.
-fn marked(area: &[u8]) -> usize
-    ensures { λ r. ⌜ r ≤ length (now (area .entry)) ⌝ }
-{
-    let mut n = 0;
-    let mut i = 0;
-    while i < area.len() {
-        i += 1;
-        if area[i - 1] != MARK {
-            n = i;
-        }
-    }
-    n
-}
-
-// A space and the first n bytes of the text.
+// A space and the first n bytes of the text, if any.
 fn show_part(text: &[u8], n: usize)
     requires { ⌜ n ≤ length (now text) ⌝ }
 {
-    print(b" ");
-    print(&text[..n]);
-}
-
-// The bytes that are no marks, as digits.
-fn show_digits(area: &[u8])
-    requires { ⌜ length (now area) ≤ 120 ⌝ }
-{
-    let n = marked(area);
     if 0 < n {
-        let mut digits = [0u8; 240];
-        hexadecimals::write(area, &mut digits);
-        show_part(&digits, 2 * n);
-    }
-}
-
-// The bytes that are no marks, as they are.
-fn show_text(area: &[u8]) {
-    let n = marked(area);
-    if 0 < n {
-        show_part(area, n);
+        print(b" ");
+        print(&text[..n]);
     }
 }
 
@@ -80,12 +39,15 @@ fn give_back(frame: &[u8], area: &mut [u8], room: usize) -> u64
     writable::code_of(to_old::to_line(frame, &mut area[..room]))
 }
 
+// A frame is shown by its digits.
 fn show_in(line: &[u8], room: usize)
     requires { ⌜ room ≤ 120 ⌝ }
 {
     let mut area = [MARK; 120];
     print_number(take_in(line, &mut area, room));
-    show_digits(&area);
+    let mut digits = [0u8; 240];
+    hexadecimals::write(&area, &mut digits);
+    show_part(&digits, 2 * areas::written(&area));
 }
 
 // A frame is given by two digits a byte.
@@ -95,7 +57,7 @@ fn show_frame(text: &[u8], frame: &mut [u8], room: usize)
     if hexadecimals::spell(text, frame) {
         let mut area = [MARK; 120];
         print_number(give_back(frame, &mut area, room));
-        show_text(&area);
+        show_part(&area, areas::written(&area));
     }
 }
 
@@ -116,9 +78,9 @@ fn show(number: u64, text: &[u8]) {
     print_number(number);
     print(b" ");
     if way.value == 1 {
-        show_in(&text[from..], min(room.value, AREA));
+        show_in(&text[from..], areas::room_of(room.value, AREA));
     } else {
-        show_back(&text[from..], min(room.value, AREA));
+        show_back(&text[from..], areas::room_of(room.value, AREA));
     }
     print(b"\n");
 }

@@ -1,3 +1,4 @@
 -- What the proofs of several functions use.
 mod Entries
 mod Alone
+mod WroteCase

@@ -1,4 +1,4 @@
-// The entries for C and other languages: a case answered into a lent area, its overpressure or its impulse alone, the ring of a threshold, the rules that gave its figures, the old form's lines, and a study sheet.
+// The entries for C and other languages: answers into a lent area, single figures, rings, rules, the old form's lines, frames and spellings that are written, and a study sheet.
 ghost use lib.ListN.{length};
 ghost use Rattle.frame.specs.Verdicts.{frameVerdict, lineVerdict};
 ghost use Rattle.linked.specs.Codes.{Entered, FigureAnswered};
@@ -14,6 +14,7 @@ pub mod old_lines;
 pub mod reasons;
 pub mod rings;
 pub mod sheets;
+pub mod writings;
 
 // A case given as a frame's bytes.
 #[no_mangle]

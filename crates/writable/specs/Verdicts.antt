@@ -1,14 +1,12 @@
--- The verdict on a case that is to be written: its own tests, and last 8 (request 3).
+-- The verdict on a case that is to be written: its own tests, and last 8 (requests 3 and 9).
 use Prim.Native.Nat.{ℕ}
-use mathlib.Core.Bool.{cond}
 use mathlib.Core.List.{List, [], _∷_, _++_}
 use mathlib.Core.Option.{Option, none, some}
 use lib.Dec.{ltb}
+use lib.ListN.{length}
 use Rattle.guidance.specs.declared.Case.{Case}
 use Rattle.refusals.specs.declared.Fault.{Fault}
-use Rattle.refusals.specs.Order.{Test, _when_, held}
-use Rattle.limits.specs.declared.Checked.{Checked}
-use Rattle.limits.specs.declared.Checked.the-variants.{Sound, Unsound}
+use Rattle.refusals.specs.Order.{Test, _when_, firstOf, held}
 use Rattle.writable.specs.declared.Refusal.{Refusal}
 use Rattle.writable.specs.declared.Refusal.the-variants.{Faulty, Space}
 use Rattle.writable.specs.declared.Verdict.{Verdict}
@@ -23,7 +21,6 @@ abbrev pub verdictBy : Option Refusal → Case → Verdict
 verdictBy none c = Accepted c
 verdictBy (some r) c = Refused r
 
--- from what its own tests found
-abbrev pub placed : Checked → (needed room : ℕ) → Verdict
-placed (Sound c) needed room = cond (ltb room needed) (Refused Space) (Accepted c)
-placed (Unsound f) needed room = Refused (Faulty f)
+-- the verdict on a case with its own tests, of which `text` is to be written
+unfoldable pub writableVerdict : (text : Case → List ℕ) (tests : List (Test Fault)) (c : Case) (room : ℕ) → Verdict
+writableVerdict text tests c room = verdictBy (firstOf (writableTests tests (length (text c)) room)) c

@@ -1,3 +1,4 @@
 -- Laws of the definitions.
 pub mod Verdicts
+pub mod Writing
 pub mod Numbers

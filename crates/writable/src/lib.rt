@@ -1,11 +1,15 @@
-// Why a case is not written: a fault of its own, else an area shorter than what is to be written.
+// A case that is to be written: why it is not, a fault of its own or an area too short; else its frame.
 ghost use mathlib.Core.Path.{_≡_};
 ghost use Rattle.refusals.specs.Faults.{filled};
 ghost use Rattle.writable.specs.Refusals.{number, code, word};
-ghost use Rattle.writable.specs.Verdicts.{placed};
+ghost use Rattle.fields.specs.Bytes.{frameBytes};
+ghost use Rattle.writable.specs.Steps.{placed, Written};
 use guidance::Case;
 use limits::Checked;
 use refusals::Fault;
+
+// The bytes of a case frame.
+const FRAME: usize = 22;
 
 pub enum Refusal {
     Faulty(Fault),
@@ -49,7 +53,7 @@ pub fn code_of(v: Verdict) -> u64
 
 // What its own tests found stands, else test 8 decides, with `room` bytes for the `needed` ones.
 pub fn place(s: Checked, needed: usize, room: usize) -> Verdict
-    ensures { λ r. ⌜ r ≡ placed s needed room ⌝ }
+    ensures { λ r. ⌜ r ≡ placed s (λ (c : Case). needed) room ⌝ }
 {
     match s {
         Checked::Sound(c) => {
@@ -60,5 +64,19 @@ pub fn place(s: Checked, needed: usize, room: usize) -> Verdict
             }
         }
         Checked::Unsound(f) => Verdict::Refused(Refusal::Faulty(f)),
+    }
+}
+
+// The frame of a case that passed its own tests, into the area's first 22 bytes.
+pub fn write_frame(s: Checked, area: &mut [u8]) -> Verdict
+    ensures { λ v. ⌜ Written frameBytes s (now (area .entry)) v (now (area .exit)) ⌝ }
+{
+    let v = place(s, FRAME, area.len());
+    match v {
+        Verdict::Accepted(c) => {
+            fields::write(area, c);
+            Verdict::Accepted(c)
+        }
+        Verdict::Refused(r) => Verdict::Refused(r),
     }
 }

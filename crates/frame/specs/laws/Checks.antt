@@ -1,18 +1,21 @@
 -- Laws of tests 1 to 6. Assumes nothing.
 use Prim.Native.Nat.{ℕ}
-use mathlib.Core.Path.{_≡_, refl, sym}
+use mathlib.Core.Path.{_≡_, refl, sym, ap, _∙_}
 use mathlib.Core.Bool.{true, false}
 use mathlib.Core.List.{List}
 use mathlib.Core.Option.{none, some}
 use lib.ListN.{length}
 use borrow.Author.Tests.{eq-eqb, ne-eqb, eqb-true, not-false}
+use Rattle.guidance.specs.declared.Case.{Case}
+use Rattle.guidance.specs.Cases.{Fields}
 use Rattle.guidance.specs.CloudWords.{Heated}
 use Rattle.hexadecimals.specs.Digits.{allDigits, bytesOf}
 use Rattle.hexadecimals.specs.laws.Spelling.{length-bytesOf}
 use Rattle.refusals.specs.declared.Fault.the-variants.{Length, Digit}
 use Rattle.refusals.specs.Order.{firstOf}
 use Rattle.refusals.specs.laws.Order.{none-first}
-use Rattle.fields.specs.Bytes.{fieldsOf}
+use Rattle.fields.specs.Bytes.{fieldsOf, frameBytes}
+use Rattle.fields.specs.laws.Back as back
 use Rattle.limits.specs.declared.Checked.the-variants.{Unsound}
 use Rattle.limits.specs.Tests.{fieldTests}
 use Rattle.limits.specs.Checks.{HeatedIfSound, caseChecked}
@@ -64,6 +67,10 @@ line-unsound-digit line h d = rw (line-digit line h d) refl
 pub line-checked : (line : List ℕ) → length line ≡ 44 → allDigits line ≡ true → lineChecked line ≡ frameChecked (bytesOf line)
 unfolding lineChecked frameChecked
 line-checked line h d = rw (line-frame line h d) refl
+
+-- the frame of a case that passes tests 3 to 6 passes them, behind test 1
+pub frame-passes : {c : Case} → Fields c → firstOf (fieldTests c) ≡ none → firstOf (frameTests (frameBytes c)) ≡ none
+frame-passes {c} f h = frame-case (frameBytes c) (back.frame-length c) ∙ ap (λ (d : Case). firstOf (fieldTests d)) (back.fields-again c f) ∙ h
 
 -- what passed them has its length, its digits, its fields in their values, and a heat
 

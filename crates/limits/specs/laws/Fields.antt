@@ -1,7 +1,8 @@
--- What is known of a case that passes tests 3 to 6. Assumes nothing.
+-- A case passes tests 3 to 6 just where its fields are in their values and it has a heat. Assumes nothing.
 use Prim.Native.Nat.{ℕ, zero, suc, _*_}
 use mathlib.Core.Path.{_≡_, refl, sym, _∙_}
 use mathlib.Core.Bool.{_&&_}
+use mathlib.Core.Option.{none}
 use native.Mathlib.Omega.{arith}
 use lib.Dec.{eqb}
 use borrow.Author.Tests.{ne-eqb, eqb-false}
@@ -9,8 +10,9 @@ use Rattle.guidance.specs.declared.Case.{Case}
 use Rattle.guidance.specs.Substances.{betaOf, heatOf}
 use Rattle.guidance.specs.Cases.{Fields}
 use Rattle.guidance.specs.CloudWords.{Heated}
-use Rattle.refusals.specs.laws.Order.{none-of, Passed}
-use Rattle.limits.specs.laws.Limits.{inside}
+use Rattle.refusals.specs.Order.{firstOf}
+use Rattle.refusals.specs.laws.Order.{none-of, none-applies, Passed, none-found}
+use Rattle.limits.specs.laws.Limits.{inside, not-outside}
 use Rattle.limits.specs.Tests.{outside, quantityOutside, heatMissing, valueTests, fieldTests}
 
 -- no heat is a heat of 0
@@ -61,3 +63,33 @@ module _ (c : Case) (p : Passed (fieldTests c)) where
         fields = fields;
         heat = let n = eqb-false (heatOf (c .substance) (c .heat)) 0 (sym (heat-missing c) ∙ p .1 .1 .1 .1 .1 .0) in omega arith;
       }
+
+-- and such a case passes them
+pub heated-passes : {c : Case} → Heated c → firstOf (fieldTests c) ≡ none
+unfolding fieldTests valueTests quantityOutside
+heated-passes {c} h =
+    let f = h .fields in
+    let quantities =
+    none-applies
+    (not-outside 1 1000000000 (c .mass) (f .mass) (f .mass-most))
+    (not-outside 1 50000 (c .mean) (f .mean) (f .mean-most))
+    (not-outside 1 50000 (c .stoichiometric) (f .stoichiometric) (f .stoichiometric-most))
+    (not-outside 0 150000 (c .heat) (omega arith) (f .heat-most))
+    (not-outside 1 1000000 (c .distance) (f .distance) (f .distance-most))
+    (not-outside 1 500 (c .body) (f .body) (f .body-most)) in
+    none-found (fieldTests c) (
+      not-outside 0 75 (c .substance) (omega arith) (f .substance),
+      (
+        not-outside 0 1 (c .state) (omega arith) (f .state),
+        (
+          not-outside 0 1 (c .placement) (omega arith) (f .placement),
+          (
+            not-outside 1 4 (c .surroundings) (f .surroundings) (f .surroundings-most),
+            (
+              quantities,
+              (heat-missing c ∙ ne-eqb (heatOf (c .substance) (c .heat)) 0 (λ e. omega (arith, h .heat)), tt),
+            ),
+          ),
+        ),
+      ),
+    )

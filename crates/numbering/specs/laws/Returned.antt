@@ -36,6 +36,7 @@ use Rattle.lent_sheet.specs.Calls as lent-calls
 use Rattle.linked.specs.Codes.{Entered, FigureAnswered}
 use Rattle.linked.specs.Rings.{Given, Answered}
 use Rattle.linked.specs.OldLines.{CameIn, WentBack}
+use Rattle.linked.specs.Writings.{WroteCase}
 use Rattle.linked.specs.Reasons as reasons
 use Rattle.numbering.specs.Entries.Refused.{answer, ring, writing, oldLine, adding}
 use Rattle.numbering.specs.laws.Retired.{retired}
@@ -76,12 +77,16 @@ came-in-not-4 {line} {before} e h = go (lineVerdict line (length before)) (sym (
     go (old-line.Accepted c) = λ z. omega arith
     go (old-line.Refused r) = retired (oldLine r)
 
+written-retired : (v : verdicts.Verdict) → writings.code v ≡ 4 → ⊥
+written-retired (written.Accepted c) = λ z. omega arith
+written-retired (written.Refused r) = retired (writing r)
+
 pub went-back-not-4 : {frame before after : List ℕ} {n : ℕ} → WentBack frame before n after → n ≡ 4 → ⊥
-went-back-not-4 {frame} {before} e h = go (old-tests.frameVerdict frame (length before)) (sym (e .returned) ∙ h)
-  where
-    go : (v : verdicts.Verdict) → writings.code v ≡ 4 → ⊥
-    go (written.Accepted c) = λ z. omega arith
-    go (written.Refused r) = retired (writing r)
+went-back-not-4 {frame} {before} e h = written-retired (old-tests.frameVerdict frame (length before)) (sym (e .returned) ∙ h)
+
+-- a frame from fields, and a spelling
+pub wrote-not-4 : {text : Case → List ℕ} {due : verdicts.Verdict} {n : ℕ} {before after : List ℕ} → WroteCase text due before n after → n ≡ 4 → ⊥
+wrote-not-4 {due = due} e h = written-retired due (sym (e .returned) ∙ h)
 
 -- a sheet: no test of its calls has the number 4
 

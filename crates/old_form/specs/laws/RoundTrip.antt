@@ -19,7 +19,7 @@ use Rattle.fields.specs.laws.Back.{frame-length, frame-bytes, frame-again, fiel
 use Rattle.limits.specs.Tests.{valueTests, heatTests, fieldTests}
 use Rattle.limits.specs.laws.Checks.{none-lost, heat-clear, heated-by}
 use Rattle.frame.specs.Tests.{frameTests}
-use Rattle.frame.specs.laws.Checks.{frame-case, frame-clear}
+use Rattle.frame.specs.laws.Checks.{frame-case, frame-passes, frame-clear}
 use Rattle.writable.specs.declared.Verdict.the-variants as written
 use Rattle.writable.specs.laws.Verdicts.{accepts}
 use Rattle.old_case.specs.declared.OldCase.{OldCase}
@@ -110,7 +110,7 @@ module _ (line : List ℕ) (room : ℕ) (c : Case) (a : lineVerdict line room �
   line-goes = (
     record {
       bytes = frame-bytes c;
-      passes = frame-case (frameBytes c) (frame-length c) ∙ ap (λ (k : Case). firstOf (fieldTests k)) (fields-again c fields) ∙ sound;
+      passes = frame-passes fields sound;
     },
     fields-again c fields,
   )

@@ -71,6 +71,12 @@ module _ {R : Type 0} where
   passed [] h = tt
   passed ((q when b) ∷ later) h = let n = none-first q b later h in (n .0, passed later (n .1))
 
+  -- and then none is found
+  pub none-found : (ts : List (Test R)) → Passed ts → firstOf ts ≡ none
+  unfolding firstOf
+  none-found [] p = refl
+  none-found ((q when b) ∷ later) p = simp (p .0) (none-found later (p .1))
+
 module _ {R : Type 0} (number : R → ℕ) where
   -- whether a test of the refusal with this number applies, wherever it stands in the list
   abbrev pub applies : ℕ → List (Test R) → Bool

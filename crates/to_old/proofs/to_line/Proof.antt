@@ -6,7 +6,7 @@ use lib.ListN.{length}
 use Rattle.guidance.specs.declared.Case.{Case}
 use Rattle.guidance.specs.Cases.{Fields}
 use Rattle.limits.specs.declared.Checked.{Checked}
-use Rattle.writable.specs.Verdicts.{placed}
+use Rattle.writable.specs.Steps.{placed}
 use Rattle.to_old.specs.laws.Verdicts.{frame-judged, frame-accepted}
 use Rattle.to_old.proofs.to_line.Statement.{statement}
 use Rattle.to_old.proofs.to_line.Tie as tie
@@ -17,7 +17,7 @@ give-back-requires c κs d e =
     let a = p .before .before .before .before .args in
     let frame = now (a .frame) in
     let room = length (now (a .area)) in
-    let t = frame-accepted frame room d (sym (p .place .ensures ∙ ap (λ (s : Checked). placed s 116 room) (p .before .check-frame .ensures) ∙ frame-judged frame room) ∙ e) in
+    let t = frame-accepted frame room d (sym (p .place .ensures ∙ ap (λ (s : Checked). placed s (λ (k : Case). 116) room) (p .before .check-frame .ensures) ∙ frame-judged frame room) ∙ e) in
     (t .room-for, subst (λ (k : Case). Fields k) (sym (t .same)) (t .heated .fields))
 
 returns : tie.Need-returns
@@ -28,7 +28,7 @@ returns c =
     let frame = now (a .frame) in
     let room = length (now (a .area)) in
     record {
-      verdict = g .give-back .ensures .verdict ∙ p .place .ensures ∙ ap (λ (s : Checked). placed s 116 room) (p .before .check-frame .ensures) ∙ frame-judged frame room;
+      verdict = g .give-back .ensures .verdict ∙ p .place .ensures ∙ ap (λ (s : Checked). placed s (λ (k : Case). 116) room) (p .before .check-frame .ensures) ∙ frame-judged frame room;
       area = g .give-back .ensures .area;
     }
 

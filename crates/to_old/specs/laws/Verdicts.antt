@@ -15,13 +15,14 @@ use Rattle.frame.specs.Checks.{frameChecked}
 use Rattle.frame.specs.laws.Checks.{frame-clear}
 use Rattle.writable.specs.declared.Refusal.the-variants.{Faulty}
 use Rattle.writable.specs.declared.Verdict.the-variants.{Accepted, Refused}
-use Rattle.writable.specs.Verdicts.{writableTests, placed}
+use Rattle.writable.specs.Verdicts.{writableTests}
+use Rattle.writable.specs.Steps.{placed}
 use Rattle.writable.specs.laws.Verdicts.{space-last, accepted, not-refused}
 use Rattle.to_old.specs.Tests.{frameVerdict}
 
-pub frame-judged : (frame : List ℕ) (room : ℕ) → placed (frameChecked frame) 116 room ≡ frameVerdict frame room
+pub frame-judged : (frame : List ℕ) (room : ℕ) → placed (frameChecked frame) (λ (c : Case). 116) room ≡ frameVerdict frame room
 unfolding frameVerdict frameChecked
-frame-judged frame room = space-last (frameTests frame) 116 room (fieldsOf frame)
+frame-judged frame room = space-last (frameTests frame) (λ (c : Case). 116) room (fieldsOf frame)
 
 -- a frame that goes back: it is that of its fields, which pass tests 3 to 6, and its line has room
 pub record FrameTaken (frame : List ℕ) (room : ℕ) (c : Case) : Type 0 where

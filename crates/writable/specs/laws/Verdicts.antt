@@ -14,27 +14,15 @@ use Rattle.refusals.specs.laws.Order.{orElse, first-held, neither-found, none-f
 use Rattle.limits.specs.Checks.{checkedBy}
 use Rattle.writable.specs.declared.Refusal.{Refusal}
 use Rattle.writable.specs.declared.Refusal.the-variants.{Faulty, Space}
-use Rattle.writable.specs.declared.Verdict.{Verdict}
 use Rattle.writable.specs.declared.Verdict.the-variants.{Accepted, Refused}
 use Rattle.writable.specs.Refusals.{number}
-use Rattle.writable.specs.Verdicts.{writableTests, verdictBy, placed}
+use Rattle.writable.specs.Verdicts.{writableTests, verdictBy}
+use Rattle.writable.specs.Steps.{placed}
 
 module _ (tests : List (Test Fault)) (needed room : ℕ) where
   split : firstOf (writableTests tests needed room) ≡ orElse Faulty (firstOf tests) (firstOf ((Space when ltb room needed) ∷ []))
   unfolding writableTests
   split = first-held Faulty tests ((Space when ltb room needed) ∷ [])
-
-  pub space-last : (c : Case) → placed (checkedBy (firstOf tests) c) needed room ≡ verdictBy (firstOf (writableTests tests needed room)) c
-  unfolding firstOf
-  space-last c = go (firstOf tests) ∙ sym (ap (λ (o : Option Refusal). verdictBy o c) split)
-    where
-      either : (b : Bool) → cond b (Refused Space) (Accepted c) ≡ verdictBy (cond b (some Space) none) c
-      either true = refl
-      either false = refl
-
-      go : (o : Option Fault) → placed (checkedBy o c) needed room ≡ verdictBy (orElse Faulty o (cond (ltb room needed) (some Space) none)) c
-      go none = either (ltb room needed)
-      go (some f) = refl
 
   -- an accepted case is the one that was given, passed its own tests, and has room
   pub accepted : (d : Case) {c : Case} → verdictBy (firstOf (writableTests tests needed room)) d ≡ Accepted c → (c ≡ d) × (firstOf tests ≡ none) × (needed ≤ room)
@@ -53,6 +41,20 @@ module _ (tests : List (Test Fault)) (needed room : ℕ) where
   accepts c p h =
       let first : firstOf (writableTests tests needed room) ≡ none = split ∙ simp (p, le-ltb room needed h) in
       ap (λ (o : Option Refusal). verdictBy o c) first
+
+-- what its own tests found stands, and 8 is behind them
+pub space-last : (tests : List (Test Fault)) (needed : Case → ℕ) (room : ℕ) (c : Case)
+    → placed (checkedBy (firstOf tests) c) needed room ≡ verdictBy (firstOf (writableTests tests (needed c) room)) c
+unfolding firstOf
+space-last tests needed room c = go (firstOf tests) ∙ sym (ap (λ (o : Option Refusal). verdictBy o c) (split tests (needed c) room))
+  where
+    either : (b : Bool) → cond b (Refused Space) (Accepted c) ≡ verdictBy (cond b (some Space) none) c
+    either true = refl
+    either false = refl
+
+    go : (o : Option Fault) → placed (checkedBy o c) needed room ≡ verdictBy (orElse Faulty o (cond (ltb room (needed c)) (some Space) none)) c
+    go none = either (ltb room (needed c))
+    go (some f) = refl
 
 -- a refusal is given only where its test applies
 pub not-refused : (r : Refusal) (ts : List (Test Refusal)) (d : Case) → applies number (number r) ts ≡ false → verdictBy (firstOf ts) d ≡ Refused r → ⊥
