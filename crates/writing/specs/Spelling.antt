@@ -1,4 +1,4 @@
--- The one spelling of a case: upper-case digits, and heat 0 where the given heat equals the table's (request 9).
+-- The one spelling of a case: its frame in upper-case digits, with heat 0 for a given heat that equals the table's (request 9).
 use Prim.Native.Nat.{ℕ}
 use mathlib.Core.Path.{_≡_}
 use mathlib.Core.Bool.{cond}

@@ -13,7 +13,7 @@ use writable::Verdict;
 // The characters of a line.
 const LINE: usize = 44;
 
-// Heat 0 where the given heat equals the table's.
+// Without a heat of its own if the given one is the table's.
 fn as_spelled(c: Case) -> Case
     ensures { λ r. ⌜ r ≡ asSpelled c ⌝ }
 {

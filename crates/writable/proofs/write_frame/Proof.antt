@@ -1,11 +1,10 @@
 -- `writable::write_frame` meets its contract: test 8, then the frame of an accepted case. Assumes nothing.
-use mathlib.Core.Path.{refl, sym, _∙_}
+use mathlib.Core.Path.{refl}
 use denote.Ref.{now}
 use borrow.Author.Needs.{needs}
 use lib.ListN.{length}
-use Rattle.fields.specs.Bytes.{frameBytes}
 use Rattle.fields.specs.laws.Back.{frame-length}
-use Rattle.writable.specs.laws.Writing.{by-length, has-room}
+use Rattle.writable.specs.laws.Writing.{has-room, told}
 use Rattle.writable.proofs.write_frame.Statement.{statement}
 use Rattle.writable.proofs.write_frame.Tie as tie
 
@@ -14,7 +13,7 @@ write-requires c κs =
     let v = c .before .before in
     let p = v .before .before in
     let a = p .before .before .args in
-    has-room (a .s) 22 (length (now (a .area))) (sym (p .place .ensures) ∙ v .v .given .1)
+    has-room (a .s) 22 (length (now (a .area))) (p .place .ensures) (v .v .given .1)
 
 returns : tie.Need-returns
 returns c =
@@ -22,14 +21,13 @@ returns c =
     let v = w .before .before .before in
     let p = v .before .before in
     let a = p .before .before .args in
-    record { verdict = sym (v .v .given .1) ∙ p .place .ensures ∙ by-length (a .s) 22 (length (now (a .area))) frameBytes frame-length; area = w .write .ensures }
+    told (a .s) (now (a .area)) frame-length (p .place .ensures) (v .v .given .1) (w .write .ensures)
 
 returns-2 : tie.Need-returns-2
 returns-2 c =
-    let v = c .before in
-    let p = v .before .before in
+    let p = c .before .before .before in
     let a = p .before .before .args in
-    record { verdict = sym (v .v2 .given .1) ∙ p .place .ensures ∙ by-length (a .s) 22 (length (now (a .area))) frameBytes frame-length; area = refl }
+    told (a .s) (now (a .area)) frame-length (p .place .ensures) (c .before .v2 .given .1) refl
 
 pub write-frame-spec : {M : Type 1} → statement M
 write-frame-spec =

@@ -20,17 +20,17 @@ use Rattle.writable.specs.declared.Refusal.the-variants.{Space}
 use Rattle.writable.specs.declared.Verdict.{Verdict}
 use Rattle.writable.specs.declared.Verdict.the-variants.{Accepted, Refused}
 use Rattle.writable.specs.Verdicts.{writableVerdict}
-use Rattle.writable.specs.Writing.{Writes}
+use Rattle.writable.specs.Writing.{withText, Writes}
 use Rattle.writable.specs.Steps.{placed, Written}
 use Rattle.writable.specs.laws.Verdicts.{space-last, accepted}
 
--- a text that has the same length of every case
+-- a text that has the same length of every case: what `place` gave for that length, u, is what the text asks for
 module _ (s : Checked) (needed room : ℕ) where
   pub by-length : (text : Case → List ℕ) → ((c : Case) → length (text c) ≡ needed) → placed s (λ (c : Case). needed) room ≡ placed s (λ (c : Case). length (text c)) room
   by-length text h = sym (λ k. placed s (λ (c : Case). h c k) room)
 
-  pub has-room : {c : Case} → placed s (λ (d : Case). needed) room ≡ Accepted c → needed ≤ room
-  has-room {c} = go s
+  pub has-room : {u : Verdict} {c : Case} → u ≡ placed s (λ (d : Case). needed) room → u ≡ Accepted c → needed ≤ room
+  has-room {u} {c} p e = go s (sym p ∙ e)
     where
       by : (d : Case) (b : Bool) → ltb room needed ≡ b → cond b (Refused Space) (Accepted d) ≡ Accepted c → needed ≤ room
       by d true e h = let z : _≡_ {A = ℕ} 0 1 = cc in absurd (omega arith)
@@ -39,6 +39,14 @@ module _ (s : Checked) (needed room : ℕ) where
       go : (t : Checked) → placed t (λ (d : Case). needed) room ≡ Accepted c → needed ≤ room
       go (Sound d) h = by d (ltb room needed) refl h
       go (Unsound f) h = let z : _≡_ {A = ℕ} 0 1 = cc in absurd (omega arith)
+
+pub told : {text : Case → List ℕ} {needed : ℕ} (s : Checked) (before : List ℕ) {u v : Verdict} {after : List ℕ}
+    → ((c : Case) → length (text c) ≡ needed)
+    → u ≡ placed s (λ (c : Case). needed) (length before)
+    → u ≡ v
+    → after ≡ withText text v before
+    → Written text s before v after
+told {text} {needed} s before h p e a = record { verdict = sym e ∙ p ∙ by-length s needed (length before) text h; area = a }
 
 pub writes : {text : Case → List ℕ} (tests : List (Test Fault)) (c : Case) {s : Checked} {before after : List ℕ} {v : Verdict}
     → s ≡ checkedBy (firstOf tests) c

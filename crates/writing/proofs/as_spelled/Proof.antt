@@ -1,4 +1,4 @@
--- `writing::as_spelled` meets its contract: heat 0 where the given heat equals the table's. Assumes nothing.
+-- `writing::as_spelled` meets its contract: without a heat of its own if the given one is the table's. Assumes nothing.
 use mathlib.Core.Path.{sym, _∙_}
 use borrow.Author.Needs.{needs}
 use borrow.Author.Tests.{eq-eqb, ne-eqb}

@@ -1,10 +1,9 @@
 -- `writing::write_spelling` meets its contract: test 8, then the spelling of an accepted case. Assumes nothing.
-use mathlib.Core.Path.{refl, sym, _∙_}
+use mathlib.Core.Path.{refl}
 use denote.Ref.{now}
 use borrow.Author.Needs.{needs}
 use lib.ListN.{length}
-use Rattle.writable.specs.laws.Writing.{by-length, has-room}
-use Rattle.writing.specs.Spelling.{spelling}
+use Rattle.writable.specs.laws.Writing.{has-room, told}
 use Rattle.writing.specs.laws.Spellings.{spelling-length}
 use Rattle.writing.proofs.write_spelling.Statement.{statement}
 use Rattle.writing.proofs.write_spelling.Tie as tie
@@ -14,7 +13,7 @@ put-spelling-requires c κs =
     let v = c .before .before in
     let p = v .before .before in
     let a = p .before .before .args in
-    has-room (a .s) 44 (length (now (a .area))) (sym (p .place .ensures) ∙ v .v .given .1)
+    has-room (a .s) 44 (length (now (a .area))) (p .place .ensures) (v .v .given .1)
 
 returns : tie.Need-returns
 returns c =
@@ -22,14 +21,13 @@ returns c =
     let v = w .before .before .before in
     let p = v .before .before in
     let a = p .before .before .args in
-    record { verdict = sym (v .v .given .1) ∙ p .place .ensures ∙ by-length (a .s) 44 (length (now (a .area))) spelling spelling-length; area = w .put-spelling .ensures }
+    told (a .s) (now (a .area)) spelling-length (p .place .ensures) (v .v .given .1) (w .put-spelling .ensures)
 
 returns-2 : tie.Need-returns-2
 returns-2 c =
-    let v = c .before in
-    let p = v .before .before in
+    let p = c .before .before .before in
     let a = p .before .before .args in
-    record { verdict = sym (v .v2 .given .1) ∙ p .place .ensures ∙ by-length (a .s) 44 (length (now (a .area))) spelling spelling-length; area = refl }
+    told (a .s) (now (a .area)) spelling-length (p .place .ensures) (c .before .v2 .given .1) refl
 
 pub write-spelling-spec : {M : Type 1} → statement M
 write-spelling-spec =
