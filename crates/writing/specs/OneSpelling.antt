@@ -40,3 +40,5 @@ pub record OneSpelling : Type 0 where
   pub same-case : (c : Case) → Agree (asSpelled c) c
   -- two cases, from frames or from lines, have one spelling exactly when they agree
   pub alike : (c d : Case) (a b : List ℕ) → SpellingOf c a → SpellingOf d b → (a ≡ b) ↔ Agree c d
+  -- so two frames get one spelling exactly when their fields agree
+  pub frames-alike : (f g before other a b : List ℕ) (c d : Case) → SpellsFrame f before (Accepted c) a → SpellsFrame g other (Accepted d) b → (take (length (spelling c)) a ≡ take (length (spelling d)) b) ↔ Agree (fieldsOf f) (fieldsOf g)

@@ -15,7 +15,7 @@ use Rattle.hexadecimals.specs.laws.Spelling.{length-bytesOf}
 use Rattle.hexadecimals.specs.laws.Writing.{length-digits}
 use Rattle.hexadecimals.specs.laws.Written.{bytes-of-digits, all-digits, upper-digits, digits-of-bytes, spelled-bytes}
 use Rattle.fields.specs.Bytes.{fieldsOf, frameBytes}
-use Rattle.fields.specs.laws.Back.{frame-length, frame-bytes, frame-again, fields-again}
+use Rattle.fields.specs.laws.Back.{frame-bytes, frame-again, fields-again}
 use Rattle.limits.specs.Tests.{valueTests, heatTests, fieldTests}
 use Rattle.limits.specs.laws.Checks.{none-lost, heat-clear, heated-by}
 use Rattle.frame.specs.Tests.{frameTests}

@@ -1,6 +1,7 @@
 -- What is written is read back, spelling twice is spelling once, and one spelling is one case. Assumes nothing.
 use Prim.Native.Nat.{ℕ, _≤_}
 use mathlib.Core.Path.{_≡_, sym, ap, _∙_, subst}
+use mathlib.Core.Logic.{_↔_}
 use mathlib.Core.List.{List}
 use mathlib.Core.Option.{none}
 use lib.ListN.{length, take}
@@ -22,8 +23,8 @@ use Rattle.writable.specs.Verdicts.{writableVerdict}
 use Rattle.writable.specs.Writing.{Writes}
 use Rattle.writable.specs.laws.Verdicts.{accepts}
 use Rattle.writable.specs.laws.Writing.{placed-text}
-use Rattle.writing.specs.Spelling.{asSpelled, spelling}
-use Rattle.writing.specs.Entries.{FromFields}
+use Rattle.writing.specs.Spelling.{asSpelled, spelling, Agree}
+use Rattle.writing.specs.Entries.{FromFields, SpellsFrame}
 use Rattle.writing.specs.OneSpelling.{SpellingOf, FrameOf, OneSpelling}
 use Rattle.writing.specs.laws.Cases.{spelled-agree, spelled-again}
 use Rattle.writing.specs.laws.Spellings.{spelling-length, bytes-read, bytes-pass, line-passes, spelling-again, agree-one, one-agree}
@@ -62,12 +63,21 @@ written-again tests d before {c} {text} {after} {v} s l p e w =
     let start : take (length (spelling d)) after ≡ spelling d = placed-text tests d (subst (λ (k : Verdict). Spells tests d before k after) verdict w) .start in
     (verdict ∙ ap {B = Verdict} Accepted e, subst (λ (t : List ℕ). take (length t) after ≡ t) same start)
 
+one-case : {c d : Case} {a b : List ℕ} → SpellingOf c a → SpellingOf d b → (a ≡ b) ↔ Agree c d
+one-case {c} {d} s t = (
+  λ e. one-agree (heated-by c (s .sound)) (heated-by d (t .sound)) (sym (s .is-spelling) ∙ e ∙ t .is-spelling),
+  λ g. s .is-spelling ∙ agree-one g ∙ sym (t .is-spelling),
+)
+
+spelled-frame : (frame before after : List ℕ) (c : Case) → SpellsFrame frame before (Accepted c) after → (c ≡ fieldsOf frame) × SpellingOf c (take (length (spelling c)) after)
+spelled-frame frame before after c w = written-spelling (frameTests frame) (fieldsOf frame) (λ p. frame-clear frame p .1) w
+
 pub one-spelling : OneSpelling
 one-spelling =
     record {
       lengths = λ c. (frame-length c, spelling-length c);
       frame-written = frame-read;
-      frame-spelled = λ frame before after c w. written-spelling (frameTests frame) (fieldsOf frame) (λ p. frame-clear frame p .1) w;
+      frame-spelled = spelled-frame;
       line-spelled = λ line before after c w. written-spelling (lineTests line) (fieldsOf (bytesOf line)) (λ p. line-clear line p .2) w;
       line-again =
           λ c text before after v s l w.
@@ -78,9 +88,10 @@ one-spelling =
           let h = heated-by c (s .sound) in
           written-again (frameTests (bytesOf text)) (fieldsOf (bytesOf text)) before s l (rw (s .is-spelling) (bytes-pass h)) (rw (s .is-spelling) (bytes-read h)) w;
       same-case = λ c. spelled-agree (spelled-again c);
-      alike =
-          λ c d a b s t. (
-            λ e. one-agree (heated-by c (s .sound)) (heated-by d (t .sound)) (sym (s .is-spelling) ∙ e ∙ t .is-spelling),
-            λ g. s .is-spelling ∙ agree-one g ∙ sym (t .is-spelling),
-          );
+      alike = λ c d a b. one-case;
+      frames-alike =
+          λ f g before other a b c d v w.
+          let s = spelled-frame f before a c v in
+          let t = spelled-frame g other b d w in
+          rw (sym (s .0), sym (t .0)) (one-case (s .1) (t .1));
     }
