@@ -1,5 +1,5 @@
 #!/usr/bin/env python3
-"""A separate calculation of document 01's values in 60 digits, with the front of request 6, written from the papers alone.
+"""A separate calculation of document 01's values in 60 digits, with the front of request 6 and the width of request 10, written from the papers alone.
 
   reference.py lines FILE            the verdict and the seven values of each line of FILE
   reference.py check FILE ANSWERS    holds reckon's output ANSWERS for the lines of FILE against this calculation
@@ -232,6 +232,25 @@ def answer(frame):
 NAMES = ('pressure', 'impulse', 'Pr1', 'Pr2', 'Pr3', 'Pr4', 'Pr5')
 
 
+# The width rule of a pressure or an impulse (request 10): WIDTH (upper - lower) is at most 2 WIDTH + lower.
+WIDTH = 100000
+
+
+def closed(low, high):
+    return WIDTH * (high - low) <= 2 * WIDTH + low
+
+
+def least_lower(value):
+    """The least lower end that the width rule permits beside the value."""
+    return max(0, -((2 * WIDTH - WIDTH * int(mp.ceil(value))) // (WIDTH + 1)))
+
+
+def greatest_upper(value):
+    """The greatest upper end that it permits."""
+    low = int(mp.floor(value))
+    return low + 2 + low // WIDTH
+
+
 def faults(line, number, text, widest):
     """What is wrong with one record of reckon's, as a list of sentences."""
     head, _, body = text.partition(' ')
@@ -253,7 +272,7 @@ def frame_faults(verdict, frame, widest):
     for name, (low, high), value in zip(NAMES, wave, exact):
         if not low <= value <= high:
             found.append('%s %s lies outside [%d, %d]' % (name, mp.nstr(value, 20), low, high))
-        if 10000 * (high - low) > 20000 + low:
+        if not closed(low, high):
             found.append('%s [%d, %d] is too wide' % (name, low, high))
         widest[name] = max(widest.get(name, Fraction(0)), Fraction(max(0, high - low - 2), max(1, low)))
     for name, (low, high), (less, more), value in zip(NAMES[2:], probits, damages, exact[2:]):
@@ -633,6 +652,7 @@ def scaled_figures(pressure, impulse, probits, damages):
 def planted():
     """Vectors with one fault each: in the data (N), in both answers (B) or in the frame's answer alone (F), a byte at a place or, at 80, the verdict."""
     right = vector(frame_line(Q), 80).split(b' ')
+    near = vector(frame_line(changed(Q, r=1)), 80).split(b' ')
     refused = vector(frame_line(changed(Q, r=2401)), 80).split(b' ')
     placed = vector(frame_line(changed(Q, placement=2)), 80).split(b' ')
 
@@ -645,8 +665,11 @@ def planted():
     for text in (moved(2, 1), moved(3, -1), with_word(right, 4, right[4].lstrip(b'-')), moved(8, mpf('0.001')),
                  with_word(right, 1, b'A2'), with_word(refused, 1, b'R6'), with_word(placed, 1, b'R12'), with_word(placed, 1, b'R1')):
         yield b'N0 0 ' + text
+    # an upper end one too far, of a pressure or an impulse and of Pr1
+    too_far = lambda at, value: b'B%d %d' % (at, (greatest_upper(mpf(value.decode())) + 1) % 256)
     wide = b'B24 %d' % ((math.ceil(1000 * Fraction(right[4].decode())) + 2) % 256)
-    for place in (b'B80 7', b'B8 255', wide, b'B58 10', b'B76 10', b'B77 1', b'B79 1', b'F80 7', b'F0 2', b'F79 1'):
+    yield too_far(8, near[2]) + b' ' + b' '.join(near)
+    for place in (b'B80 7', too_far(8, right[2]), too_far(16, right[3]), wide, b'B58 10', b'B76 10', b'B77 1', b'B79 1', b'F80 7', b'F0 2', b'F79 1'):
         yield place + b' ' + b' '.join(right)
     for place in (b'B0 1', b'B79 1'):
         yield place + b' ' + b' '.join(refused)

@@ -20,7 +20,7 @@ from fractions import Fraction
 from mpmath import mp, mpf
 
 from reference import (CUBES, HEX, LAST_FREE, LIMITS, METHANE, ORDER, P0, PETROL, PROPANE, Q, SPOILED, STEPS, Source, answer, centimetres, changed,
-                       cloud, contents, decide, fields, frame_line, lines_of, random_case, random_line, reduced, seeded)
+                       cloud, contents, decide, fields, frame_line, greatest_upper, least_lower, lines_of, random_case, random_line, reduced, seeded)
 
 MOST = 18 * P0  # the greatest threshold, and the overpressure of a detonation's near field
 
@@ -52,16 +52,6 @@ def floor(value):
 
 def ceiling(value):
     return int(mp.ceil(value))
-
-
-def least_lower(value):
-    """The least lower end within the width rule: 10,000 (upper - lower) is at most 20,000 + lower."""
-    return max(0, -((20000 - 10000 * ceiling(value)) // 10001))
-
-
-def greatest_upper(value):
-    """The greatest upper end within the width rule."""
-    return floor(value) + 2 + floor(value) // 10000
 
 
 # the two ends, lower first

@@ -20,8 +20,9 @@ from fractions import Fraction
 from mpmath import mp, mpf
 
 from reference import (CUBES, LAST_FREE, LIMITS, METHANE, ORDER, P0, PETROL, PROPANE, Q, SPOILED, STEPS, Source, centimetres, changed, cloud, contents,
-                       decide, deflagration, detonation, fields, frame_line, in_units, lines_of, random_case, random_line, reduced_distance, seeded)
-from rings import greatest_upper, least_lower, spells
+                       decide, deflagration, detonation, fields, frame_line, greatest_upper, in_units, least_lower, lines_of, random_case, random_line,
+                       reduced_distance, seeded)
+from rings import spells
 
 UNDECIDED, NEAR_FIELD, DETONATION, DEFLAGRATION, AT_034 = range(5)
 PRESSURE, IMPULSE = 0, 1

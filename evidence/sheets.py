@@ -24,8 +24,8 @@ import tempfile
 
 from mpmath import mp
 
-from reference import (CUBES, ORDER, P0, PROPANE, Q, SPOILED, Source, changed, contents, decide, decide_frame, fields, frame_line, lines_of,
-                       random_case, random_line, reduced, seeded)
+from reference import (CUBES, ORDER, P0, PROPANE, Q, SPOILED, Source, changed, contents, decide, decide_frame, fields, frame_line, greatest_upper,
+                       lines_of, random_case, random_line, reduced, seeded)
 from rings import spells
 
 PLACES, FRAME = 64, 22
@@ -94,7 +94,7 @@ def exact(frame):
 def bounds(frame):
     """Between which an upper end lies: not below the value, and no farther from a lower end than the width rule has it."""
     value = exact(frame)
-    return int(mp.ceil(value)), (20000 + 10001 * int(mp.floor(value))) // 10000
+    return int(mp.ceil(value)), greatest_upper(value)
 
 
 def open_totals(sheet):

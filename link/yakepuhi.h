@@ -12,6 +12,9 @@
    4, which stood for all of 12 to 14, is retired: no function gives it.
    After a refusal everything that was lent for writing has the bytes that it had.
 
+   The width rule, for overpressures in Pa and impulses in Pa s: 100,000 * (upper - lower) is at most 200,000 + lower, so that the two ends lie
+   at most 2 and a hundred-thousandth of the lower one apart. The two ends of a probit lie at most 2 thousandths apart.
+
    They use no heap, no file and no global state, so any number of threads can call them at once. */
 #ifndef YAKEPUHI_H
 #define YAKEPUHI_H
@@ -31,7 +34,7 @@ extern "C" {
 /* A case given as the bytes of a frame. Accepted, it writes the answer frame into the first 77 bytes of the area and no others.
    The answer: the speed range; overpressure in Pa and impulse in Pa s, each a lower and an upper end; five probits in thousandths,
    signed, lower and upper; five damages in tenths of a percent, lower and upper. High byte first throughout.
-   Each interval meets every bracket of its exact value and is no wider than the width rule; each damage is the reading of the damage
+   Each interval meets every bracket of its exact value and is no wider than its rule above has it; each damage is the reading of the damage
    table at its probit's end. A frame has no test 2. */
 uint64_t yakepuhi_from_frame(const uint8_t *frame, size_t frame_length, uint8_t *area, size_t area_length);
 

@@ -6,7 +6,7 @@ use Rattle.exact.specs.Exact.{AnyTwoMeet}
 use Rattle.exact.specs.Holding.{Holds}
 use Rattle.span.specs.declared.Span.{Span}
 use Rattle.span.specs.Spans.{Normal, Width, Floor, Ceiling}
-use Rattle.span.specs.Wholes.{wholes, Finer}
+use Rattle.span.specs.Wholes.{wholes}
 use Rattle.span.specs.Enclosing.{Encloses}
 use Rattle.enclosure.specs.Promises.{enough}
 use Rattle.waves.specs.EndBounds.{LowerAtMost}
@@ -18,6 +18,7 @@ use Rattle.guidance.specs.Cases.{Air, Accepted}
 use Rattle.blast.specs.declared.Wave.{Wave}
 use Rattle.blast.specs.declared.Figures.{Figures}
 use Rattle.blast.specs.Windows.{Window, pressureWindow, impulseWindow}
+use Rattle.blast.specs.WaveEnds.{Closed}
 use Rattle.layout.specs.declared.Ends.{Ends}
 
 -- s contains the N-th bracket of x for every N from `enough` on, and lies in the window w
@@ -64,11 +65,11 @@ pub record FiguresOf (air : ℕ) (c : Case) (f : Figures) : Type 0 where
   pub deflagration : DeflagrationWave air c (f .deflagration)
   pub detonation : DetonationWave air c (f .detonation)
 
--- whole numbers around the value of x, close together and below `top`
+-- whole numbers around the value of x, closed by the width rule and below `top`
 pub record Ended (x : Formula) (top : ℕ) (e : Ends) : Type 0 where
   pub holds : Holds (wholes (e .lower) (e .upper)) x
   pub meet : AnyTwoMeet x
-  pub finer : Finer (e .lower) (e .upper)
+  pub closed : Closed (e .lower) (e .upper)
   pub small : e .upper < top
 
 pub record Roundable (s : Span) : Type 0 where

@@ -2,17 +2,16 @@
 use Prim.Native.Nat.{ℕ, _+_, _*_, _-_, _^_, _≤_, _<_}
 use mathlib.Core.Path.{_≡_}
 use mathlib.Core.Bool.{false}
-use native.Mathlib.Nat.{mul-pos, mul-le-mul-right, le-of-mul-le-mul-right, lt-of-mul-lt-mul-right}
+use native.Mathlib.Nat.{mul-sub, mul-le-mul-left, mul-le-mul-right, mul-lt-mul-of-pos-left, le-of-mul-le-mul-right, lt-of-mul-lt-mul-right}
 use native.Mathlib.Omega.{arith}
 use borrow.Author.Tests.{ltb-false}
-use lib.Pow.{pow-pos}
 use Rattle.exact.specs.Bracket.{Bracket}
 use Rattle.exact.specs.laws.Pairs.{_⊆_}
 use Rattle.exact.specs.Formula.{Formula, bracketAt}
 use Rattle.exact.specs.laws.Containment.{contains-holds, inside-wider}
 use Rattle.exact.specs.Holding.{Holds}
 use Rattle.span.specs.declared.Span.{Span}
-use Rattle.span.specs.Spans.{unit, unit-positive, units, hull, wholeF, Normal, Width, Floor, Ceiling, below}
+use Rattle.span.specs.Spans.{unit, unit-positive, units, hull, wholeF, Width, Floor, Ceiling, below}
 use Rattle.span.specs.Enclosing.{Encloses}
 
 abbrev pub wholes : ℕ → ℕ → Bracket
@@ -30,22 +29,18 @@ pub wholes-overlap : {a b : Span} {l u : ℕ} → below a b ≡ false → Ceilin
 unfolding below
 wholes-overlap {a} {b} n c f = le-of-mul-le-mul-right {k = unit} (omega (arith, f .below, ltb-false (a .hi * 2 ^ a .e) (b .lo * 2 ^ b .e) n, c .above)) unit-positive
 
--- at most 2 and a hundred-thousandth of the lower end apart
-pub record Finer (lower upper : ℕ) : Type 0 where
-  pub ordered : lower ≤ upper
-  pub narrow : 100000 * (upper - lower) ≤ 200000 + lower
+-- Whole numbers around a span whose width is no more than one part in m + 1 lie at most 2 and an m-th of the lower one apart
 
 -- all in units: L and H are the ends of a span, U one
-finer : (D l u L H U : ℕ) → D ≤ 2 ^ 13 → 0 < U → 0 < H → L ≤ H → l * U ≤ L → L < l * U + U → H ≤ u * U → u * U < H + U
-    → H * 2 ^ 30 ≤ L * 2 ^ 30 + D * H → Finer l u
-finer D l u L H U small z some o l0 l1 u0 u1 w =
-    let in-order : l ≤ u = le-of-mul-le-mul-right {k = U} (omega arith) z in
-    let share : 100000 * H < 100001 * L = omega (arith, w, mul-le-mul-right H small) in
-    let near : 100000 * u < 200001 + 100001 * l = lt-of-mul-lt-mul-right U (omega arith) in
-    record { ordered = in-order; narrow = omega (arith, near) }
+apart : (m D l u L H U : ℕ) → (m + 1) * D ≤ 2 ^ 30 → L < l * U + U → u * U < H + U → H * 2 ^ 30 ≤ L * 2 ^ 30 + D * H → m * (u - l) ≤ 2 * m + l
+apart m D l u L H U small l1 u1 w =
+    let share : m * H ≤ (m + 1) * L = omega (arith, mul-le-mul-right (m + 1) w, mul-le-mul-right H small) in
+    let lower : (m + 1) * L < (m + 1) * (l * U + U) = mul-lt-mul-of-pos-left l1 (omega arith) in
+    let upper : m * (u * U) ≤ m * (H + U) = mul-le-mul-left m (omega arith) in
+    let near : m * u < 2 * m + 1 + (m + 1) * l = lt-of-mul-lt-mul-right U (omega (arith, share, lower, upper)) in
+    rw mul-sub (omega (arith, near))
 
-pub wholes-finer : {a : Span} {l u D : ℕ} → Normal a → Floor a l → Ceiling a u → Width a D → D ≤ 2 ^ 13 → Finer l u
-wholes-finer {a} {l} {u} {D} m f c w d =
+pub wholes-apart : {a : Span} {l u D : ℕ} (m : ℕ) → Floor a l → Ceiling a u → Width a D → (m + 1) * D ≤ 2 ^ 30 → m * (u - l) ≤ 2 * m + l
+wholes-apart {a} {l} {u} {D} m f c w d =
     let A = 2 ^ a .e in
-    finer D l u (a .lo * A) (a .hi * A) unit d unit-positive (mul-pos {m = a .hi} (omega (arith, m .least)) (pow-pos (a .e))) (mul-le-mul-right A (m .ordered))
-    (f .below) (f .near) (c .above) (c .near) (omega (arith, mul-le-mul-right A (w .narrow)))
+    apart m D l u (a .lo * A) (a .hi * A) unit d (f .near) (c .near) (omega (arith, mul-le-mul-right A (w .narrow)))

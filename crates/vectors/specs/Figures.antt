@@ -1,4 +1,4 @@
--- When a figure of an answer is right by the value of the data (document 01, "The answer frame", "Probits and damage").
+-- When a figure of an answer is right by the value of the data (document 01, "The answer frame", "Probits and damage"; request 10).
 use Prim.Native.Nat.{ℕ, zero, suc, _+_, _*_, _-_}
 use mathlib.Core.Bool.{Bool, _&&_, cond}
 use mathlib.Core.List.{List}
@@ -10,9 +10,9 @@ use Rattle.bytes.specs.Numbers.{twoAt, fourAt}
 unfoldable pub contained : (lower upper value unit : ℕ) → Bool
 contained lower upper value unit = leb (lower * unit) value && leb value (upper * unit)
 
--- the width of a pressure or an impulse: 10,000 × (upper - lower) is at most 20,000 + lower
+-- the width of a pressure or an impulse: 100,000 × (upper - lower) is at most 200,000 + lower
 abbrev pub closed : (lower upper : ℕ) → Bool
-closed lower upper = leb (10000 * upper) (20000 + lower + 10000 * lower)
+closed lower upper = leb (100000 * upper) (200000 + lower + 100000 * lower)
 
 -- a pressure or an impulse, with twelve places of the value
 unfoldable pub waveRight : (lower upper value : ℕ) → Bool

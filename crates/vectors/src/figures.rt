@@ -28,12 +28,12 @@ fn contains(lower: u64, upper: u64, value: u64, unit: u64) -> bool
     }
 }
 
-// Whether the width is within 2 units and a part in 10,000 of the lower end.
+// Whether the width is within 2 units and a part in 100,000 of the lower end.
 fn is_closed(lower: u64, upper: u64) -> bool
     requires { ⌜ (lower < 4294967296) × (upper < 4294967296) ⌝ }
     ensures { λ r. ⌜ r ≡ closed lower upper ⌝ }
 {
-    10000 * upper <= 20000 + lower + 10000 * lower
+    100000 * upper <= 200000 + lower + 100000 * lower
 }
 
 // A pressure or an impulse with twelve places of the value.

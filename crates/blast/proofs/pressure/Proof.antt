@@ -1,4 +1,6 @@
--- `blast::pressure` meets its contract. Assumes nothing.
+-- `blast::pressure` meets its contract:
+-- the whole pascals around the span of ΔP, closed by its width.
+-- Assumes nothing.
 use borrow.Author.Needs.{needs}
 use Rattle.blast.specs.Ending.{pressure-roundable, pressure-ended}
 use Rattle.blast.proofs.Finals.{pressure-span}

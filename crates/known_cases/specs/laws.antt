@@ -1,0 +1,2 @@
+-- What is proved of the judging.
+pub mod Widths
