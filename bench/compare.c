@@ -81,7 +81,7 @@ static void rules(const struct record *r)
 {
     const int64_t *wave[2] = { r->f.pressure, r->f.impulse };
     for (int i = 0; i < 2; i++)
-        if (wave[i][0] > wave[i][1] || WIDTH * (wave[i][1] - wave[i][0]) > 2 * WIDTH + wave[i][0])
+        if (wave[i][0] > wave[i][1] || WAVE_WIDTH * (wave[i][1] - wave[i][0]) > 2 * WAVE_WIDTH + wave[i][0])
             fault(i == 0 ? "the pressure's interval is out of order or too wide" : "the impulse's interval is out of order or too wide");
     for (int i = 0; i < PROBITS; i++) {
         const int64_t *p = r->f.probit[i];

@@ -28,8 +28,8 @@ struct cloud {
     uint32_t body;     /* kg */
 };
 
-/* The width rule of a pressure or an impulse: WIDTH (upper - lower) is at most 2 WIDTH + lower. */
-#define WIDTH 100000
+/* The width rule of a pressure or an impulse: WAVE_WIDTH (upper - lower) is at most 2 WAVE_WIDTH + lower. */
+#define WAVE_WIDTH 100000
 
 /* Whole numbers around the seven values: Pa, Pa s, and thousandths of a probit. Lower end first. */
 struct figures {

@@ -390,7 +390,7 @@ static void show_bytes(union sheet sheets[KINDS], uint8_t shown[KINDS][SHEET])
 }
 
 /* The proved end is above the exact value by the width rule at most, that of plain doubles by less than 1, or it is one off at a whole number. */
-static int near(uint64_t proved, uint64_t plain) { return plain <= proved + 1 && WIDTH * proved <= 2 * WIDTH + (WIDTH + 1) * plain; }
+static int near(uint64_t proved, uint64_t plain) { return plain <= proved + 1 && WAVE_WIDTH * proved <= 2 * WAVE_WIDTH + (WAVE_WIDTH + 1) * plain; }
 
 /* The proved bytes and those of plain C: the same but for the ends of cases, which are near. */
 static int alike(const uint8_t *proved, const uint8_t *plain)

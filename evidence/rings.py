@@ -1,5 +1,5 @@
 #!/usr/bin/env python3
-"""A separate calculation of rings (request 1) in 60 digits, with the front of request 6, written from the papers alone.
+"""A separate calculation of rings (request 1) in 60 digits, with the front of request 6 and the width of request 10, written from the papers alone.
 
   rings.py lines FILE                             what fits each request of FILE, from the tightest ends to the widest
   rings.py vectors DIRECTORY                      the files stdin and stdout of the program known_rings, the same at every run

@@ -1,5 +1,6 @@
 #!/usr/bin/env python3
-"""A separate calculation of the rules that give ΔP and I (request 5) in 60 digits, with the front of request 6, written from the papers alone.
+"""A separate calculation of the rules that give ΔP and I (request 5) in 60 digits, with the front of request 6 and the width of request 10,
+written from the papers alone.
 
   rules.py lines FILE                      the rules of each line of FILE, and the figure by each rule
   rules.py vectors DIRECTORY               the files stdin and stdout of the program known_rules, the same at every run

@@ -9,7 +9,7 @@ use Rattle.layout.specs.declared.Ends.{Ends}
 abbrev pub Closed : (lower upper : ℕ) → Type 0
 Closed lower upper = 100000 * (upper - lower) ≤ 200000 + lower
 
--- whole numbers that have the exact value of x between them
+-- whole numbers that have the exact value of x between them, by the width rule
 pub record WaveEnds (x : Formula) (e : Ends) : Type 0 where
   pub value : ExactBetween 1 x (pos (e .lower)) (pos (e .upper))
   pub closed : Closed (e .lower) (e .upper)
