@@ -9,12 +9,15 @@
 #define FORMULAS_H
 
 /* Numbers made once. */
-static number air, air_power, air_root, near_gas_impulse, gas_g, aerosol_g;
+static number standard_air, standard_power, standard_root, near_gas_impulse, gas_g, aerosol_g;
 static number k1_124, k1_66, k0_26, k3_4217, k0_898, k0_0096, k0_125, k0_137, k0_023, k0_022, k0_16, k0_83, k0_14, k0_06, k0_01, k0_0025, k0_34,
     k0_4, k4_2, k1_3, k8_4, k9_3, k7_4, k11_3;
 
+/* P0, P0^(2/3) and P0^(1/2) of the case at hand: those of standard air or the next three. */
+static from air, air_power, air_root;
+
 /* Numbers of the case at hand. */
-static number energy, rx, px, ix, l, w, x, x2, x3, s, t, u, p, i, a, b;
+static number own_air, own_power, own_root, energy, rx, px, ix, l, w, x, x2, x3, s, t, u, p, i, a, b;
 
 static void ratio(into k, unsigned long above, unsigned long below)
 {
@@ -42,10 +45,29 @@ static void gas_pressure(into r, from log)
     power_of_e(r, r);
 }
 
+static void set_air(into p0, into p0_power, into p0_root, unsigned long pascals)
+{
+    whole(p0, pascals);
+    square(t, p0);
+    root(p0_power, t, 3);
+    square_root(p0_root, p0);
+}
+
+static void take_air(const struct cloud *c)
+{
+    int standard = c->air == AIR;
+    if (!standard)
+        set_air(own_air, own_power, own_root, c->air);
+    air = standard ? standard_air : own_air;
+    air_power = standard ? standard_power : own_power;
+    air_root = standard ? standard_root : own_root;
+}
+
 void prepare(long bits)
 {
     set_precision(bits);
-    into made[] = { air, air_power, air_root, near_gas_impulse, energy, rx, px, ix, l, w, x, x2, x3, s, t, u, p, i, a, b };
+    into made[] = { standard_air, standard_power, standard_root, own_air, own_power, own_root, near_gas_impulse,
+                    energy, rx, px, ix, l, w, x, x2, x3, s, t, u, p, i, a, b };
     for (size_t n = 0; n < sizeof made / sizeof *made; n++)
         fresh(made[n]);
     ratio(gas_g, 6, 7), ratio(aerosol_g, 3, 4);
@@ -55,10 +77,7 @@ void prepare(long bits)
     ratio(k0_83, 83, 100), ratio(k0_14, 14, 100), ratio(k0_06, 6, 100), ratio(k0_01, 1, 100), ratio(k0_0025, 25, 10000);
     ratio(k0_34, 34, 100), ratio(k0_4, 4, 10), ratio(k4_2, 42, 10), ratio(k1_3, 13, 10);
     ratio(k8_4, 84, 10), ratio(k9_3, 93, 10), ratio(k7_4, 74, 10), ratio(k11_3, 113, 10);
-    whole(air, AIR);
-    square(t, air);
-    root(air_power, t, 3);
-    square_root(air_root, air);
+    set_air(standard_air, standard_power, standard_root, AIR);
     whole(t, 142);
     over_whole(t, t, 1000);
     ln(l, t);
@@ -148,6 +167,7 @@ static void detonation(const struct cloud *c)
 /* The overpressure p and the impulse i. */
 static void waves(const struct cloud *c)
 {
+    take_air(c);
     whole(energy, c->joules);
     over_whole(energy, energy, c->parts);
     if (c->aerosol)

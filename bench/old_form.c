@@ -1,5 +1,5 @@
 /* Times the old stored form, one call a line, proved and in plain doubles, both ways. `old_form ROUNDS` reads the lines of its cases from
-   standard input and moves most of their doubles off the nearest ones. */
+   standard input and moves most of their doubles off the nearest ones. The way back is compared in 24 bytes too, in standard air and in another. */
 #include "turns.h"
 #include "yakepuhi.h"
 
@@ -23,7 +23,8 @@ enum { HEAT = 3 };
 static const char upper[] = "0123456789ABCDEF";
 static uint8_t digits[256]; /* a digit's value, 16 for any other character */
 
-static uint8_t (*frames)[FRAME], (*lines)[OLD];
+static struct frame *frames;
+static uint8_t (*lines)[OLD];
 static size_t count;
 static uint64_t sum; /* what the calls gave, so that none is left out */
 
@@ -123,15 +124,18 @@ static uint64_t double_back(const uint8_t *frame, size_t length, uint8_t *area, 
 {
     uint8_t raw[BYTES];
     double n[FIELDS];
-    if (length != FRAME)
+    if (length != FRAME && length != LONG_FRAME)
         return 1;
+    uint32_t air = length == FRAME ? STANDARD_AIR : (uint32_t)frame[22] << 8 | frame[23];
     for (int i = 0; i < FIELDS; i++) {
         uint32_t value = 0;
         for (int j = 0; j < fields[i].size; j++)
             value = value << 8 | frame[fields[i].at + j];
         n[i] = value;
     }
-    uint64_t refusal = refusal_of(frame, n, 0);
+    uint64_t refusal = refusal_of(frame, n, air < LEAST_AIR || air > GREATEST_AIR);
+    if (refusal == 0 && air != STANDARD_AIR)
+        refusal = 19;
     if (refusal != 0 || room < OLD)
         return refusal != 0 ? refusal : 8;
     memcpy(raw, frame, 4);
@@ -176,16 +180,34 @@ static void make_line(const uint8_t frame[FRAME], uint8_t line[OLD])
 
 typedef uint64_t turner(const uint8_t *from, size_t length, uint8_t *area, size_t room);
 
-/* How many answers differ, of all inputs of a way; an area holds the longer form. */
-static size_t differing(const uint8_t *inputs, size_t length, turner *ours, turner *theirs)
+/* Whether two ways answer an input otherwise; an area holds the longer form. Where it is not refused, both accept it. */
+static int differs(const uint8_t *input, size_t length, turner *ours, turner *theirs, uint64_t refusal)
+{
+    uint8_t a[OLD] = { 0 }, b[OLD] = { 0 };
+    uint64_t one = ours(input, length, a, OLD), other = theirs(input, length, b, OLD);
+    return one != refusal || other != refusal || memcmp(a, b, OLD) != 0;
+}
+
+static size_t differing_in(void)
 {
     size_t differ = 0;
-    for (size_t i = 0; i < count; i++) {
-        uint8_t a[OLD] = { 0 }, b[OLD] = { 0 };
-        uint64_t one = ours(inputs + i * length, length, a, OLD), other = theirs(inputs + i * length, length, b, OLD);
-        if (one != 0 || other != 0 || memcmp(a, b, OLD) != 0)
-            differ++;
-    }
+    for (size_t i = 0; i < count; i++)
+        differ += (size_t)differs(lines[i], OLD, yakepuhi_frame_from_old, double_in, 0);
+    return differ;
+}
+
+/* The frame in 22 bytes, in 24 with the standard air, and in 24 with one unit of it less, which is refused by 19. */
+static size_t differing_back(void)
+{
+    size_t differ = 0;
+    for (size_t i = 0; i < count; i++)
+        for (int less = 0; less < 2; less++) {
+            struct frame f = frames[i];
+            f.bytes[22] = (STANDARD_AIR - less) >> 8, f.bytes[23] = (uint8_t)(STANDARD_AIR - less);
+            if (less == 0)
+                differ += (size_t)differs(f.bytes, FRAME, yakepuhi_old_from_frame, double_back, 0);
+            differ += (size_t)differs(f.bytes, LONG_FRAME, yakepuhi_old_from_frame, double_back, less == 0 ? 0 : 19);
+        }
     return differ;
 }
 
@@ -202,7 +224,7 @@ static void all_back(turner *turn)
 {
     uint8_t area[OLD] = { 0 };
     for (size_t i = 0; i < count; i++)
-        sum += turn(frames[i], FRAME, area, OLD) + area[20] + area[115];
+        sum += turn(frames[i].bytes, FRAME, area, OLD) + area[20] + area[115];
 }
 
 static void proved_ins(void) { all_in(yakepuhi_frame_from_old); }
@@ -222,10 +244,9 @@ int main(int words, char **word)
     set_digits();
     lines = malloc(count * sizeof *lines);
     for (size_t i = 0; i < count; i++)
-        make_line(frames[i], lines[i]);
-    size_t in = differing(lines[0], OLD, yakepuhi_frame_from_old, double_in);
-    size_t back = differing(frames[0], FRAME, yakepuhi_old_from_frame, double_back);
-    printf("%zu old lines, %zu answered otherwise by plain doubles; %zu frames, %zu answered otherwise\n", count, in, count, back);
+        make_line(frames[i].bytes, lines[i]);
+    size_t in = differing_in(), back = differing_back();
+    printf("%zu old lines, %zu answered otherwise by plain doubles; %zu frames, %zu answered otherwise\n", count, in, 3 * count, back);
     time_in_turn(runs, 4, rounds, medians);
     printf("the old form, one call a line (check sum %llu)\n", (unsigned long long)sum);
     for (int i = 0; i < 4; i++) {

@@ -3,6 +3,7 @@
 
 #include <math.h>
 
+/* P0^(2/3) and P0^(1/2) in standard air, made once. */
 static double air_power, air_root, near_gas_impulse;
 
 static double gas_impulse(double log) { return exp(-3.4217 - 0.898 * log - 0.0096 * log * log); }
@@ -23,7 +24,7 @@ static double energy_of(const struct cloud *c)
 
 static double reduced_distance(const struct cloud *c, double energy)
 {
-    return c->distance / 100.0 / cbrt(energy / AIR);
+    return c->distance / 100.0 / cbrt(energy / c->air);
 }
 
 /* V of ranges 5 and 6, over C0: never faster than range 4. */
@@ -60,7 +61,7 @@ double overpressure(const struct cloud *c)
         double w = mach_number(c), g = c->state == 0 ? 6.0 / 7 : 0.75, x = c->under ? 0.34 : rx;
         px = least(px, w * w * g * (0.83 / x - 0.14 / (x * x)));
     }
-    return px * AIR;
+    return px * c->air;
 }
 
 static void round_out(int64_t ends[2], double value)
@@ -91,12 +92,14 @@ void work(const struct cloud *c, struct figures *f)
         px = least(px, w * w * g * (0.83 / x - 0.14 / (x * x)));
         ix = least(ix, w * g * (1 - 0.4 * g * w) * (0.06 / x + 0.01 / (x * x) - 0.0025 / (x * x * x)));
     }
-    double p = px * AIR, i = ix * air_power * cbrt(energy) / SOUND;
+    int standard = c->air == AIR;
+    double power = standard ? air_power : cbrt((double)c->air * c->air), root = standard ? air_root : sqrt(c->air);
+    double p = px * c->air, i = ix * power * cbrt(energy) / SOUND;
     round_out(f->pressure, p);
     round_out(f->impulse, i);
     round_out(f->probit[0], 5000 - 260 * log(pow(17500 / p, 8.4) + pow(290 / i, 9.3)));
     round_out(f->probit[1], 5000 - 220 * log(pow(40000 / p, 7.4) + pow(460 / i, 11.3)));
-    round_out(f->probit[2], 5000 - 5740 * log(4.2 / (1 + p / AIR) + 1.3 * air_root * cbrt(c->body) / i));
+    round_out(f->probit[2], 5000 - 5740 * log(4.2 / (1 + p / c->air) + 1.3 * root * cbrt(c->body) / i));
     round_out(f->probit[3], -12600 + 1524 * log(p));
     round_out(f->probit[4], 5000 - 2440 * log(7380 / p + 1300000000 / (p * i)));
 }

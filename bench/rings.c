@@ -6,13 +6,12 @@
 #include <math.h>
 #include <stdio.h>
 #include <stdlib.h>
-#include <string.h>
 
-/* Distances in cm, thresholds in Pa; below 3 Pa there is no ring. */
-enum { LAST_DISTANCE = 1000000, LEAST = 3, MOST = 18 * AIR };
+/* Distances in cm, thresholds in Pa; below 3 Pa there is no ring in standard air. */
+enum { LAST_DISTANCE = 1000000, LEAST = 3, MOST_TIMES = 18 };
 
 struct request {
-    uint8_t frame[FRAME];
+    struct frame frame;
     uint64_t threshold;
 };
 
@@ -70,11 +69,11 @@ static uint64_t last_reaching(struct cloud *c, end_at *end, uint64_t threshold, 
 static struct ring double_ring(const struct request *q)
 {
     struct cloud c;
-    struct ring r = { (uint64_t)decide_frame(q->frame, &c), 0, 0 };
+    struct ring r = { (uint64_t)decide_frame(q->frame.bytes, q->frame.length, &c), 0, 0 };
     if (r.refusal != 0 && r.refusal != 7)
         return r;
     uint64_t far = farthest(&c), threshold = q->threshold;
-    r.refusal = threshold < 1 || threshold > MOST ? 9 : lower_at(&c, 1) < threshold ? 10 : upper_at(&c, far) >= threshold ? 11 : 0;
+    r.refusal = threshold < 1 || threshold > MOST_TIMES * c.air ? 9 : lower_at(&c, 1) < threshold ? 10 : upper_at(&c, far) >= threshold ? 11 : 0;
     if (r.refusal == 0) {
         r.inner = last_reaching(&c, lower_at, threshold, 1, far);
         r.outer = last_reaching(&c, upper_at, threshold, r.inner, far) + 1;
@@ -85,7 +84,7 @@ static struct ring double_ring(const struct request *q)
 static struct ring proved_ring(const struct request *q)
 {
     struct ring r = { 0, 0, 0 };
-    r.refusal = yakepuhi_ring_from_frame(q->frame, FRAME, q->threshold, &r.inner, &r.outer);
+    r.refusal = yakepuhi_ring_from_frame(q->frame.bytes, q->frame.length, q->threshold, &r.inner, &r.outer);
     return r;
 }
 
@@ -95,7 +94,7 @@ static struct ring proved_ring(const struct request *q)
 static int permitted(const struct request *q, struct ring r)
 {
     struct cloud c;
-    decide_frame(q->frame, &c);
+    decide_frame(q->frame.bytes, q->frame.length, &c);
     uint64_t far = farthest(&c), t = q->threshold;
     if (r.refusal == 10)
         return lower_at(&c, 1) <= t;
@@ -145,25 +144,27 @@ static void double_rings(void)
     }
 }
 
-/* A threshold spread evenly over the logarithm (splitmix64). */
-static uint64_t next_threshold(void)
+/* A threshold spread evenly over the logarithm (splitmix64), up to 18 times the case's air pressure. */
+static uint64_t next_threshold(const struct frame *f)
 {
+    struct cloud c;
+    decide_frame(f->bytes, f->length, &c);
     static uint64_t state = 1;
     uint64_t z = state += 0x9E3779B97F4A7C15u;
     z = (z ^ z >> 30) * 0xBF58476D1CE4E5B9u;
     z = (z ^ z >> 27) * 0x94D049BB133111EBu;
     double unit = (double)((z ^ z >> 31) >> 11) / 9007199254740992.0;
-    return (uint64_t)(LEAST * exp(unit * log((double)MOST / LEAST)));
+    return (uint64_t)(LEAST * exp(unit * log((double)MOST_TIMES * c.air / LEAST)));
 }
 
 static void read_requests(void)
 {
-    uint8_t (*frames)[FRAME];
+    struct frame *frames;
     count = read_frames(&frames);
     requests = malloc(count * sizeof *requests);
     for (size_t i = 0; i < count; i++) {
-        memcpy(requests[i].frame, frames[i], FRAME);
-        requests[i].threshold = next_threshold();
+        requests[i].frame = frames[i];
+        requests[i].threshold = next_threshold(&frames[i]);
     }
     free(frames);
 }

@@ -19,7 +19,7 @@ struct wave {
     double pressure, impulse;
 };
 
-static uint8_t (*frames)[FRAME];
+static struct frame *frames;
 static size_t cases;
 static uint64_t sum; /* what the calls gave, so that none is left out */
 static double near_gas_impulse;
@@ -53,16 +53,16 @@ static struct wave deflagration(const struct cloud *c, double rx)
 /* The two waves of a cloud in ranges 2 to 6. */
 static void both_waves(const struct cloud *c, struct wave *burning, struct wave *detonating)
 {
-    double energy = (c->aerosol ? 0.75 : 1) * (double)c->joules / c->parts, rx = c->distance / 100.0 / cbrt(energy / AIR);
+    double energy = (c->aerosol ? 0.75 : 1) * (double)c->joules / c->parts, rx = c->distance / 100.0 / cbrt(energy / c->air);
     *burning = deflagration(c, rx);
     *detonating = detonation(c, rx);
 }
 
-static struct rules double_rules(const uint8_t *frame)
+static struct rules double_rules(const struct frame *frame)
 {
     struct cloud c;
     struct wave burning, detonating;
-    struct rules r = { (uint64_t)decide_frame(frame, &c), 0, 0 };
+    struct rules r = { (uint64_t)decide_frame(frame->bytes, frame->length, &c), 0, 0 };
     if (r.refusal != 0)
         return r;
     r.pressure = r.impulse = c.near ? YAKEPUHI_NEAR_FIELD : YAKEPUHI_DETONATION;
@@ -77,10 +77,10 @@ static struct rules double_rules(const uint8_t *frame)
     return r;
 }
 
-static struct rules proved_rules(const uint8_t *frame)
+static struct rules proved_rules(const struct frame *frame)
 {
     struct rules r = { 0, 0, 0 };
-    r.refusal = yakepuhi_rules(frame, FRAME, &r.pressure, &r.impulse);
+    r.refusal = yakepuhi_rules(frame->bytes, frame->length, &r.pressure, &r.impulse);
     return r;
 }
 
@@ -102,10 +102,10 @@ static void compare(void)
     for (size_t i = 0; i < cases; i++) {
         struct cloud c;
         struct wave burning = { 0, 0 }, detonating = { 0, 0 };
-        struct rules ours = proved_rules(frames[i]), theirs = double_rules(frames[i]);
+        struct rules ours = proved_rules(&frames[i]), theirs = double_rules(&frames[i]);
         int same = ours.refusal == theirs.refusal;
         if (same && ours.refusal == 0) {
-            decide_frame(frames[i], &c);
+            decide_frame(frames[i].bytes, frames[i].length, &c);
             if (c.range > 1)
                 both_waves(&c, &burning, &detonating);
             same = permitted(ours.pressure, theirs.pressure, c.range, burning.pressure, detonating.pressure)
@@ -125,7 +125,7 @@ static void compare(void)
 static void proved_all(void)
 {
     for (size_t i = 0; i < cases; i++) {
-        struct rules r = proved_rules(frames[i]);
+        struct rules r = proved_rules(&frames[i]);
         sum += r.refusal + r.pressure + r.impulse;
     }
 }
@@ -133,7 +133,7 @@ static void proved_all(void)
 static void double_all(void)
 {
     for (size_t i = 0; i < cases; i++) {
-        struct rules r = double_rules(frames[i]);
+        struct rules r = double_rules(&frames[i]);
         sum += r.refusal + r.pressure + r.impulse;
     }
 }

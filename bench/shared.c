@@ -63,10 +63,10 @@ static inline unsigned digit_of(uint8_t ch)
     return ch >= 'a' && ch <= 'f' ? ch - 'a' + 10u : 16u;
 }
 
-int spell(const uint8_t *line, uint8_t frame[FRAME])
+int spell(const uint8_t *line, size_t length, uint8_t frame[LONG_FRAME])
 {
     unsigned seen = 0;
-    for (int i = 0; i < FRAME; i++) {
+    for (size_t i = 0; i < length / 2; i++) {
         unsigned high = digit_of(line[2 * i]), low = digit_of(line[2 * i + 1]);
         seen |= high | low;
         frame[i] = (uint8_t)(high << 4 | (low & 15));
@@ -81,7 +81,7 @@ static inline int outside(uint32_t x, uint32_t least, uint32_t most) { return x 
 int move_receptor(struct cloud *c, uint32_t distance)
 {
     /* The cube of Rx is r^3 P0/E with r in metres; in millionths, r^3 P0 parts/joules with r in centimetres. */
-    wide cube = (wide)((uint64_t)distance * distance * distance) * ((uint64_t)AIR * c->parts * (c->aerosol ? 4 : 1));
+    wide cube = (wide)((uint64_t)distance * distance * distance) * ((uint64_t)c->air * c->parts * (c->aerosol ? 4 : 1));
     wide joules = (wide)c->joules * (c->aerosol ? 3 : 1);
     c->distance = distance;
     c->near = cube < joules * (c->state == 0 ? 8000 : 15625);
@@ -89,11 +89,14 @@ int move_receptor(struct cloud *c, uint32_t distance)
     return cube > joules * 13824000000u ? 7 : 0;
 }
 
-int decide_frame(const uint8_t frame[FRAME], struct cloud *c)
+int decide_frame(const uint8_t *frame, size_t length, struct cloud *c)
 {
+    if (length != FRAME && length != LONG_FRAME)
+        return 1;
     unsigned substance = frame[0], state = frame[1], placement = frame[2], surroundings = frame[3];
     uint32_t mass = four(frame + 4), mean = two(frame + 8), stoichiometric = two(frame + 10);
     uint32_t heat = four(frame + 12), distance = four(frame + 16), body = two(frame + 20);
+    uint32_t air = length == FRAME ? STANDARD_AIR : two(frame + 22);
     if (substance > 75)
         return 3;
     if (state > 1)
@@ -103,7 +106,7 @@ int decide_frame(const uint8_t frame[FRAME], struct cloud *c)
     if (outside(surroundings, 1, 4))
         return 14;
     if (outside(mass, 1, 1000000000) || outside(mean, 1, 50000) || outside(stoichiometric, 1, 50000) || heat > 150000
-        || outside(distance, 1, 1000000) || outside(body, 1, 500))
+        || outside(distance, 1, 1000000) || outside(body, 1, 500) || outside(air, LEAST_AIR, GREATEST_AIR))
         return 5;
     if (heat == 0 && BETA[substance] == 0)
         return 6;
@@ -121,17 +124,18 @@ int decide_frame(const uint8_t frame[FRAME], struct cloud *c)
     }
     c->mass = mass;
     c->body = body;
+    c->air = 10 * air;
     return move_receptor(c, distance);
 }
 
 int decide_line(const uint8_t *line, size_t length, struct cloud *c)
 {
-    uint8_t frame[FRAME];
-    if (length != LINE)
+    uint8_t frame[LONG_FRAME];
+    if (length != LINE && length != LONG_LINE)
         return 1;
-    if (!spell(line, frame))
+    if (!spell(line, length, frame))
         return 2;
-    return decide_frame(frame, c);
+    return decide_frame(frame, length / 2, c);
 }
 
 /* ---- the records */
@@ -223,8 +227,8 @@ static int put_record(const uint8_t *line, size_t length, worker *work)
     return 1;
 }
 
-/* A line that a read cut: the start of it, of which a 45th character shows that it is too long. */
-static uint8_t held[LINE + 1];
+/* A line that a read cut: the start of it, of which a 49th character shows that it is too long. */
+static uint8_t held[LONG_LINE + 1];
 static size_t held_length;
 static int open_line;
 

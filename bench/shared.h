@@ -9,10 +9,13 @@
 extern "C" {
 #endif
 
-enum { LINE = 44, FRAME = 22, ANSWER = 77, PROBITS = 5 };
+/* The longer line and frame give their air pressure, in units of 10 Pa. */
+enum { LINE = 44, FRAME = 22, LONG_LINE = 48, LONG_FRAME = 24, ANSWER = 77, PROBITS = 5 };
 
-/* The physical constants that need no arithmetic: P0 in Pa and C0 in m/s. */
-enum { AIR = 101300, SOUND = 340 };
+enum { STANDARD_AIR = 10130, LEAST_AIR = 5000, GREATEST_AIR = 11000 };
+
+/* The physical constants that need no arithmetic: P0 in Pa where no air pressure is given, and C0 in m/s. */
+enum { AIR = 10 * STANDARD_AIR, SOUND = 340 };
 
 /* An accepted case. E = joules/parts J, times 3/4 where `aerosol` holds. The comparisons of Rx are already made. */
 struct cloud {
@@ -26,6 +29,13 @@ struct cloud {
     uint32_t mass;     /* grams */
     uint32_t distance; /* cm */
     uint32_t body;     /* kg */
+    uint32_t air;      /* P0 in Pa */
+};
+
+/* A frame, of 22 bytes or 24. */
+struct frame {
+    uint8_t bytes[LONG_FRAME];
+    size_t length;
 };
 
 /* The width rule of a pressure or an impulse: WAVE_WIDTH (upper - lower) is at most 2 WAVE_WIDTH + lower. */
@@ -38,14 +48,14 @@ struct figures {
     int64_t probit[PROBITS][2];
 };
 
-/* The bytes that 44 characters spell; 0 where one of them is no hexadecimal digit. */
-int spell(const uint8_t *line, uint8_t frame[FRAME]);
+/* The bytes that 44 or 48 characters spell; 0 where one of them is no hexadecimal digit. */
+int spell(const uint8_t *line, size_t length, uint8_t frame[LONG_FRAME]);
 
 /* Puts a cloud's receptor at a distance from 1 to 1,000,000 cm and compares Rx there: 7 where it is beyond, else 0. */
 int move_receptor(struct cloud *c, uint32_t distance);
 
-/* The refusal number of a frame of 22 bytes, or 0 and its cloud; after refusal 7 there is a cloud too. */
-int decide_frame(const uint8_t frame[FRAME], struct cloud *c);
+/* The refusal number of a frame, or 0 and its cloud; after refusal 7 there is a cloud too. */
+int decide_frame(const uint8_t *frame, size_t length, struct cloud *c);
 
 /* The refusal number of a line, or 0 and its cloud. */
 int decide_line(const uint8_t *line, size_t length, struct cloud *c);

@@ -12,15 +12,15 @@
 
 enum { SHEET = YAKEPUHI_SHEET, PLACES = YAKEPUHI_PLACES, PLACE = SHEET / PLACES, HALF = PLACES / 2, KINDS = 4, TASKS = 5, MARK = 0xEE };
 
-/* The upper end, 4 bytes, lies in a place behind the tag and the frame. */
-enum { END = 1 + FRAME };
+/* The upper end, 4 bytes, lies in a place behind the tag and the shorter frame, and the air pressure behind it, 2 bytes, 0 for the standard one. */
+enum { END = 1 + FRAME, AIR_AT = END + 4 };
 
-static uint8_t (*frames)[FRAME];
+static struct frame *frames;
 static size_t cases;
 static uint64_t sum; /* what the calls gave, so that none is left out */
 
 /* Tests 1 to 7, which the peers make alike, and the upper end of an accepted case. */
-static uint64_t refusal_of(const uint8_t *frame, size_t length, struct cloud *c) { return length != FRAME ? 1 : (uint64_t)decide_frame(frame, c); }
+static uint64_t refusal_of(const uint8_t *frame, size_t length, struct cloud *c) { return (uint64_t)decide_frame(frame, length, c); }
 static uint32_t end_of(const struct cloud *c) { return (uint32_t)ceil(overpressure(c)); }
 
 struct totals {
@@ -40,7 +40,7 @@ static void include(struct totals *t, uint64_t place, uint32_t end)
 
 struct fields {
     uint8_t substance, state, placement, surroundings;
-    uint16_t mean, stoichiometric, body;
+    uint16_t mean, stoichiometric, body, air; /* 0 for the standard air */
     uint32_t mass, heat, distance;
 };
 
@@ -70,13 +70,21 @@ static void put_number(uint8_t *to, int size, uint32_t n)
         to[i] = (uint8_t)(n >> 8 * (size - 1 - i));
 }
 
-static struct fields fields_of(const uint8_t *f)
+/* The air pressure as a place has it. */
+static uint16_t kept_air(const uint8_t *frame, size_t length)
+{
+    uint32_t air = length == FRAME ? STANDARD_AIR : number_at(frame + FRAME, 2);
+    return air == STANDARD_AIR ? 0 : (uint16_t)air;
+}
+
+static struct fields fields_of(const uint8_t *f, uint16_t air)
 {
     return (struct fields){ .substance = f[0], .state = f[1], .placement = f[2], .surroundings = f[3], .mass = number_at(f + 4, 4),
                             .mean = (uint16_t)number_at(f + 8, 2), .stoichiometric = (uint16_t)number_at(f + 10, 2),
-                            .heat = number_at(f + 12, 4), .distance = number_at(f + 16, 4), .body = (uint16_t)number_at(f + 20, 2) };
+                            .heat = number_at(f + 12, 4), .distance = number_at(f + 16, 4), .body = (uint16_t)number_at(f + 20, 2), .air = air };
 }
 
+/* All but the air pressure. */
 static void put_fields(uint8_t *to, const struct fields *f)
 {
     to[0] = f->substance;
@@ -107,7 +115,7 @@ static uint64_t memory_add(void *sheet, const uint8_t *frame, size_t length, uin
     if (refusal != 0 || m->last == PLACES)
         return refusal != 0 ? refusal : 17;
     uint32_t end = end_of(&c);
-    m->places[m->last] = (struct place){ 1, end, fields_of(frame) };
+    m->places[m->last] = (struct place){ 1, end, fields_of(frame, kept_air(frame, length)) };
     *place = ++m->last;
     include(&m->totals, m->last, end);
     return 0;
@@ -150,6 +158,8 @@ static uint64_t memory_read(const void *sheet, uint64_t place, uint8_t *area)
     if (place < 1 || place > m->last || !m->places[place - 1].held)
         return 18;
     put_fields(area, &m->places[place - 1].fields);
+    if (m->places[place - 1].fields.air != 0)
+        put_number(area + FRAME, 2, m->places[place - 1].fields.air);
     return 0;
 }
 
@@ -179,6 +189,7 @@ static uint64_t bytes_add(void *sheet, const uint8_t *frame, size_t length, uint
     s[PLACE * last] = 1;
     memcpy(s + PLACE * last + 1, frame, FRAME);
     put_number(s + PLACE * last + END, 4, end_of(&c));
+    put_number(s + PLACE * last + AIR_AT, 2, kept_air(frame, length));
     *place = last + 1;
     return 0;
 }
@@ -209,7 +220,10 @@ static uint64_t bytes_read(const void *sheet, uint64_t place, uint8_t *area)
     const uint8_t *s = sheet;
     if (place < 1 || place > PLACES || s[PLACE * (place - 1)] == 0)
         return 18;
-    memcpy(area, s + PLACE * (place - 1) + 1, FRAME);
+    s += PLACE * (place - 1);
+    memcpy(area, s + 1, FRAME);
+    if ((s[AIR_AT] | s[AIR_AT + 1]) != 0)
+        memcpy(area + FRAME, s + AIR_AT, 2);
     return 0;
 }
 
@@ -231,7 +245,7 @@ static void unpack(const uint8_t *s, struct memory *m)
     for (int i = 0; i < PLACES; i++) {
         m->places[i].held = s[PLACE * i] != 0;
         if (m->places[i].held) {
-            m->places[i].fields = fields_of(s + PLACE * i + 1);
+            m->places[i].fields = fields_of(s + PLACE * i + 1, (uint16_t)number_at(s + PLACE * i + AIR_AT, 2));
             m->places[i].end = number_at(s + PLACE * i + END, 4);
         }
     }
@@ -246,6 +260,7 @@ static void pack(const struct memory *m, uint8_t *s)
             s[PLACE * i] = 1;
             put_fields(s + PLACE * i + 1, &m->places[i].fields);
             put_number(s + PLACE * i + END, 4, m->places[i].end);
+            put_number(s + PLACE * i + AIR_AT, 2, m->places[i].fields.air);
         }
 }
 
@@ -302,7 +317,7 @@ static uint64_t proved_add(void *sheet, const uint8_t *frame, size_t length, uin
 
 static uint64_t proved_withdraw(void *sheet, uint64_t place) { return yakepuhi_sheet_withdraw(sheet, SHEET, place); }
 static uint64_t proved_close(void *sheet) { return yakepuhi_sheet_close(sheet, SHEET); }
-static uint64_t proved_read(const void *sheet, uint64_t place, uint8_t *area) { return yakepuhi_sheet_case(sheet, SHEET, place, area, FRAME); }
+static uint64_t proved_read(const void *sheet, uint64_t place, uint8_t *area) { return yakepuhi_sheet_case(sheet, SHEET, place, area, LONG_FRAME); }
 
 static uint64_t proved_totals(const void *sheet, struct totals *t)
 {
@@ -344,32 +359,33 @@ static uint64_t next_random(void) /* splitmix64 */
 /* Of 64 operations 34 add, one case in four with a byte spoilt and one in 64 without its last byte; 14 withdraw, 15 read and one closes. */
 struct operation {
     unsigned kind;
-    uint8_t frame[FRAME];
-    size_t length;
+    struct frame frame;
     uint64_t place;
 };
 
 static struct operation operation_at(size_t i)
 {
-    struct operation o = { (unsigned)(next_random() % 64), { 0 }, FRAME - (next_random() % 64 == 0), next_random() % (PLACES + 2) };
-    memcpy(o.frame, frames[i], FRAME);
+    struct operation o = { .kind = (unsigned)(next_random() % 64), .frame = frames[i] };
+    size_t length = frames[i].length;
+    o.frame.length -= next_random() % 64 == 0;
+    o.place = next_random() % (PLACES + 2);
     if (next_random() % 4 == 0)
-        o.frame[next_random() % FRAME] = (uint8_t)next_random();
+        o.frame.bytes[next_random() % length] = (uint8_t)next_random();
     return o;
 }
 
 /* What an operation gives, with the place that is told and the case that is read, or marks that it leaves. */
 struct outcome {
     uint64_t number, place;
-    uint8_t area[FRAME];
+    uint8_t area[LONG_FRAME];
 };
 
 static struct outcome outcome_of(const struct kind *k, union sheet *s, const struct operation *o)
 {
     struct outcome r = { .place = MARK };
-    memset(r.area, MARK, FRAME);
+    memset(r.area, MARK, sizeof r.area);
     if (o->kind < 34)
-        r.number = k->add(s, o->frame, o->length, &r.place);
+        r.number = k->add(s, o->frame.bytes, o->frame.length, &r.place);
     else if (o->kind < 48)
         r.number = k->withdraw(s, o->place);
     else if (o->kind < 63)
@@ -432,7 +448,7 @@ static void compare(void)
         int same = i > 0 || sheets_agree(sheets);
         for (int k = 0; k < KINDS; k++) {
             r[k] = outcome_of(&kinds[k], &sheets[k], &o);
-            same &= r[k].number == r[0].number && r[k].place == r[0].place && memcmp(r[k].area, r[0].area, FRAME) == 0;
+            same &= r[k].number == r[0].number && r[k].place == r[0].place && memcmp(r[k].area, r[0].area, sizeof r[0].area) == 0;
         }
         if (!same || !sheets_agree(sheets)) {
             printf("operation %zu: %llu, place %llu, the sheet or its totals stand alone\n", i + 1, (unsigned long long)r[0].number,
@@ -457,8 +473,8 @@ static void make_sheets(void)
     for (int k = 0; k < KINDS; k++)
         for (size_t i = 0; i < PLACES; i++) {
             if (i < HALF)
-                kinds[k].add(&half[k], frames[i % cases], FRAME, &place);
-            kinds[k].add(&gapped[k], frames[i % cases], FRAME, &place);
+                kinds[k].add(&half[k], frames[i % cases].bytes, frames[i % cases].length, &place);
+            kinds[k].add(&gapped[k], frames[i % cases].bytes, frames[i % cases].length, &place);
         }
     for (int k = 0; k < KINDS; k++)
         for (uint64_t i = 1; i <= PLACES; i += 2)
@@ -470,7 +486,7 @@ static void pairs(int k)
     union sheet s = half[k];
     uint64_t place = 0;
     for (size_t i = 0; i < cases; i++)
-        sum += kinds[k].add(&s, frames[i], FRAME, &place) + kinds[k].withdraw(&s, place) + place;
+        sum += kinds[k].add(&s, frames[i].bytes, frames[i].length, &place) + kinds[k].withdraw(&s, place) + place;
 }
 
 static void adds(int k)
@@ -480,7 +496,7 @@ static void adds(int k)
     for (size_t i = 0; i < cases; i++) {
         if (i % HALF == 0)
             memcpy(&s, &half[k], kinds[k].size);
-        sum += kinds[k].add(&s, frames[i], FRAME, &place) + place;
+        sum += kinds[k].add(&s, frames[i].bytes, frames[i].length, &place) + place;
     }
 }
 
@@ -495,7 +511,7 @@ static void closes(int k)
 
 static void reads(int k)
 {
-    uint8_t area[FRAME] = { 0 };
+    uint8_t area[LONG_FRAME] = { 0 };
     for (size_t i = 0; i < cases; i++)
         sum += kinds[k].read(&half[k], 1 + i % HALF, area) + area[7] + area[21];
 }

@@ -5,15 +5,17 @@
 #include <stdlib.h>
 #include <time.h>
 
-size_t read_frames(uint8_t (**frames)[FRAME])
+size_t read_frames(struct frame **frames)
 {
     size_t cases = 0, room = 0, size = 0;
+    ssize_t got;
     char *line = NULL;
     *frames = NULL;
-    while (getline(&line, &size, stdin) == LINE + 1) {
+    while ((got = getline(&line, &size, stdin)) == LINE + 1 || got == LONG_LINE + 1) {
         if (cases == room)
             *frames = realloc(*frames, (room = 2 * room + 1000) * sizeof **frames);
-        cases += (size_t)spell((const uint8_t *)line, (*frames)[cases]);
+        (*frames)[cases].length = (size_t)got / 2;
+        cases += (size_t)spell((const uint8_t *)line, (size_t)got - 1, (*frames)[cases].bytes);
     }
     free(line);
     return cases;

@@ -9,7 +9,7 @@ import math
 import sys
 
 from figure import box, line, text, told
-from reference import P0, PETROL, accepted_of, changed, frame_line, reduced
+from reference import PETROL, accepted_of, air_pressure, changed, frame_line, reduced
 
 LEFT, TOP, WIDTH, HEIGHT = 70, 30, 640, 330
 FAR, HIGH = 2500, 140  # m, kPa
@@ -34,7 +34,7 @@ def answered(reckon, around):
 def not_held(around):
     """The same as it was before request 6."""
     def pressures(distances):
-        return [float(reduced(*verdict, math.inf)[0] * P0 / 1000) for verdict in accepted_of(cases(around, distances))]
+        return [float(reduced(*verdict, math.inf)[0] * air_pressure(verdict[0]) / 1000) for verdict in accepted_of(cases(around, distances))]
     return pressures
 
 

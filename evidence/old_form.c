@@ -9,8 +9,8 @@
 #include <stdlib.h>
 #include <string.h>
 
-/* The area's mark is no hexadecimal digit. A frame may be two bytes too long. */
-enum { IN = 1, BACK = 2, AREA = 120, MARK = 0x5F, LONGEST = 24 };
+/* The area's mark is no hexadecimal digit. A frame may be two bytes longer than one with its air pressure. */
+enum { IN = 1, BACK = 2, AREA = 120, MARK = 0x5F, LONGEST = 26 };
 
 /* The number and the space after it that a text begins with; -1 for another text. */
 static long number_at(char **text)

@@ -1,5 +1,5 @@
 #!/usr/bin/env python3
-"""A separate calculation of the old stored form (request 3) in exact fractions, written from the papers alone.
+"""A separate calculation of the old stored form (request 3) in exact fractions, with the air of request 11, written from the papers alone.
 
   old_form.py lines FILE                      the record of each request of FILE
   old_form.py vectors DIRECTORY               the files stdin and stdout of the program known_old_lines, the same at every run
@@ -8,8 +8,8 @@
   old_form.py pascal                          what link/old_form.pas prints
 
 A request is a line: the way, 1 in or 2 back, a space, the room of the area in decimal, a space, then an old line as it stands, or a frame
-in hexadecimal digits. A record is the request's number, the number returned and, where the area changed, its bytes up to the last that did:
-from the way in as upper-case digits, from the way back as they stand. The area has 120 bytes, each 5F before a call.
+in hexadecimal digits, up to 26 bytes. A record is the request's number, the number returned and, where the area changed, its bytes up to the
+last that did: from the way in as upper-case digits, from the way back as they stand. The area has 120 bytes, each 5F before a call.
 `against` prints a line for each of the first faults, and last the counts; its exit status is 0 where there is no fault. FILE may be - for
 standard input.
 """
@@ -23,11 +23,12 @@ import sys
 import tempfile
 from fractions import Fraction
 
-from reference import (HEX, LIMITS, ORDER, PROPANE, Q, SPOILED, Source, changed, contents, decide_case, fields, frame_line, lines_of,
-                       random_case)
+from reference import (AIR, AIRS, FRAMES, HEX, LIMITS, ORDER, PROPANE, Q, SPOILED, STANDARD, WRONG_AIRS, Source, changed, contents, decide_case, fields,
+                       frame_line, lines_of, long_line, random_case, random_fault, seeded, written)
 
 IN, BACK = 1, 2
-OLD, FRAME, AREA, MARK = 116, 22, 120, b'\x5f'
+OLD, FRAME, AREA, MARK = 116, FRAMES[0], 120, b'\x5f'
+LIMITS = LIMITS[:6]  # an old line has no air pressure
 SCALES = (1000, 10, 10, 1000, 100, 1)
 TAGS = (1, 2, 3, 4, 5, 6)
 MOST = 10**9  # the greatest value of a double
@@ -105,7 +106,7 @@ def decide_old(line):
         return 15, None
     if not all(map(usable, doubles)):
         return 16, None
-    case = settings + list(map(whole, doubles, SCALES))
+    case = settings + list(map(whole, doubles, SCALES)) + [STANDARD]
     lost = case[4 + HEAT] == 0 and value_of(doubles[HEAT]) > 0
     # a lost heat is a quantity outside its values, as -1 would be
     return decide_case(changed(case, heat=-1) if lost else case), case
@@ -120,10 +121,10 @@ def way_in(line, room):
 
 def way_back(frame, room):
     """The number returned for a frame, and the characters written."""
-    if len(frame) != FRAME:
+    if len(frame) not in FRAMES:
         return 1, b''
     case = fields(frame)
-    number = decide_case(case) or (8 if room < OLD else 0)
+    number = decide_case(case) or (19 if case[AIR] != STANDARD else 8 if room < OLD else 0)
     return number, b'' if number else nearest_line(case)
 
 
@@ -187,7 +188,8 @@ class Tally:
             self.check_turned(asked, answer_of(turned[0], stands or b''))
 
     def check_turned(self, asked, back):
-        same = back == asked[2] if asked[0] == IN else back == asked[2].upper()
+        # a frame of 24 bytes comes back in 22
+        same = back == asked[2] if asked[0] == IN else back == asked[2].upper()[:2 * FRAME]
         self.turned += 1
         self.unchanged += same
         if same != (asked[0] == BACK or comes_back(asked[2])):
@@ -256,17 +258,19 @@ def random_double(source, field):
 
 CASE = fields(bytes.fromhex(PROPANE.decode()))
 BARE = changed(CASE, substance=47)  # without its heat it is refused
-# the tests of each way in their order
+# the tests of each way in their order, those of a source without airs and all
 TESTS = {IN: (1, 2, 15, 16, 3, 12, 13, 14, 5, 6, 8), BACK: (1, 3, 12, 13, 14, 5, 6, 8)}
+ALL_TESTS = {IN: TESTS[IN], BACK: (1, 3, 12, 13, 14, 5, 6, 19, 8)}
 
 
 def spoiled(way, numbers):
     """A request to which exactly these refusals apply. The tag is the last one and the double the first, so that a field at a time is too little."""
     case, room = BARE, (21, 115)[way - IN] if 8 in numbers else AREA
-    for refusal, new in ORDER[:-1]:
+    for refusal, new in ORDER[:-1] + ((19, dict(air=5000)),):
         case = changed(case, **new) if refusal in numbers else case
     if way == BACK:
-        return way, room, frame_line(case)[:42 if 1 in numbers else 44]
+        line = frame_line(case)
+        return way, room, line[:-2] if 1 in numbers else line
     doubles = list(map(nearest, case[4:], SCALES))
     doubles[0] |= MINUS if 16 in numbers else 0
     line = old_line(case[:4], doubles, TAGS[:5] + (7 if 15 in numbers else 6,))
@@ -278,7 +282,7 @@ def spoiled_case(source):
     """A random case; one in five has a field outside its values, or no heat, and some have several."""
     case = random_case(source)
     while source.chance(20):
-        case = changed(case, **source.choice(SPOILED)[1])
+        case = changed(case, **random_fault(source))
     return changed(case, substance=source.choice((0, 25, 47)), heat=0) if source.chance(2) else case
 
 
@@ -316,7 +320,7 @@ def random_old(source):
 
 
 def random_frame(source):
-    line = frame_line(spoiled_case(source))
+    line = written(source, spoiled_case(source))
     kind = source.below(100)
     if kind < 3:
         line = line[:2 * source.below(FRAME)]
@@ -329,7 +333,8 @@ def random_request(source):
     """Three in five are old lines; one in eight has one to three things wrong, whatever they are."""
     way = IN if source.chance(60) else BACK
     if source.chance(12):
-        return spoiled(way, [source.choice(TESTS[way]) for _ in range(3)])
+        tests = ALL_TESTS if source.airs else TESTS
+        return spoiled(way, [source.choice(tests[way]) for _ in range(3)])
     room = source.choice(ROOMS) if source.chance(15) else AREA
     return way, room, random_old(source) if way == IN else random_frame(source)
 
@@ -349,7 +354,7 @@ def field_requests(source, count, field):
 
 
 def against(archive, count, seed):
-    source = Source(int(seed[0]) if seed else 1)
+    source = seeded(seed)
     with tempfile.TemporaryDirectory() as directory:
         tally = Tally(archive, directory)
         tally.check([random_request(source) for _ in range(count)])
@@ -357,7 +362,7 @@ def against(archive, count, seed):
             tally.check(list(field_requests(source, count, field)))
     for way, name in ((IN, 'way in'), (BACK, 'way back')):
         counts = {number: n for (other, number), n in tally.verdicts.items() if other == way}
-        refused = ' '.join('%s:%d' % (number, counts.get(number, 0)) for number in '1 2 15 16 3 12 13 14 5 6 8'.split())
+        refused = ' '.join('%s:%d' % (number, counts.get(number, 0)) for number in map(str, ALL_TESTS[way]))
         print('%s: %d requests, %d accepted, refused %s' % (name, sum(counts.values()), counts.get('0', 0), refused))
     print('%d answers turned back, %d of them to what was given; %d faults' % (tally.turned, tally.unchanged, tally.faults))
     return 1 if tally.faults else 0
@@ -453,7 +458,7 @@ def limits():
         yield IN, AREA, line_with(CASE, field, nearest(256**size + 1, SCALES[field]))
         yield BACK, AREA, frame_line(case_with(field, 256**size - 1))
     for case in (CASE[:4] + [low for low, _ in LIMITS], CASE[:4] + [high for _, high in LIMITS], BARE[:4] + [1] * 6):
-        yield from both_ways(case)
+        yield from both_ways(case + [STANDARD])
 
 
 def rooms():
@@ -480,10 +485,30 @@ def order():
             yield asked
 
 
+def airs():
+    """The way back of frames with an air pressure: the standard one, all others, its limits, other lengths, rooms, and 19 with each other test."""
+    for case in (CASE, BARE, Q, changed(CASE, body=95), changed(CASE, r=10**6), changed(CASE, mass=0xABCDEF, c=0xFED, s=0xCBA, heat=0xBCDE, r=0xEFABC)):
+        yield BACK, AREA, long_line(case)
+    yield BACK, AREA, long_line(CASE).lower()
+    for air in AIRS + (5215, 10096, 10386) + WRONG_AIRS:
+        yield BACK, AREA, long_line(changed(CASE, air=air))
+    line = long_line(changed(CASE, air=5000))
+    yield from ((BACK, AREA, other) for other in (line[:46], long_line(CASE)[:46], long_line(changed(CASE, substance=76))[:46]))
+    for room in (0, 22, 24, 44, 48, 115, 116, 117):
+        yield from ((BACK, room, other) for other in (long_line(CASE), line)[:1 if room > OLD else 2])
+    for number in TESTS[BACK]:
+        asked = spoiled(BACK, (number, 19))
+        assert record(*asked) == b'%d' % (19 if number == 8 else number)
+        yield asked
+    for _, new in ORDER[:-1]:
+        yield BACK, AREA, long_line(changed(BARE, air=11001, **new))
+        yield BACK, AREA, long_line(changed(BARE, **new))
+
+
 def vectors(directory):
     groups = known(), lengths(), digits(), tags(), corners(), halves(), limits(), rooms(), settings(), order()
     source = Source(1)
-    requests = list(dict.fromkeys(itertools.chain(*groups, (random_request(source) for _ in range(20)))))
+    requests = list(dict.fromkeys(itertools.chain(*groups, (random_request(source) for _ in range(20)), airs())))
     with open(os.path.join(directory, 'stdin'), 'wb') as asked, open(os.path.join(directory, 'stdout'), 'wb') as records:
         for number, each in enumerate(requests, start=1):
             asked.write(b'%d %d %s\n' % each)

@@ -1,17 +1,17 @@
 #!/usr/bin/env python3
 """Lines that lie across the boundaries of reckon's reads of 65,536 bytes.
 
-  reads.py FILE    writes to FILE its first 143 lines again, and behind them such lines; the same at every run
+  reads.py FILE    writes to FILE its first 163 lines again, and behind them such lines; the same at every run
 """
 import sys
 
 from reference import PROPANE, random_lines
 
 READ = 65536
-KEPT = 143
-# a line across each boundary, and how many of its characters stand before it: an accepted case in two halves; a case of which
-# the first 44 characters alone would be accepted, in a line of 89; a case of which one character was read
-ACROSS = ((PROPANE, 22), (PROPANE * 2 + b'0', 44), (PROPANE, 1))
+KEPT = 163
+# a line across each boundary, and how many of its characters stand before it: a case in mountain air of which the first 44
+# characters alone would be accepted; the same in a line of 89; a case of which one character was read
+ACROSS = ((PROPANE + b'1F40', 44), (PROPANE * 2 + b'0', 44), (PROPANE, 1))
 LAST = PROPANE[:-2] + b'50'
 NEAR = 40
 

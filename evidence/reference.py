@@ -1,5 +1,6 @@
 #!/usr/bin/env python3
-"""A separate calculation of document 01's values in 60 digits, with the front of request 6 and the width of request 10, written from the papers alone.
+"""A separate calculation of document 01's values in 60 digits, with the front of request 6, the width of request 10 and the air of request 11, written
+from the papers alone.
 
   reference.py lines FILE            the verdict and the seven values of each line of FILE
   reference.py check FILE ANSWERS    holds reckon's output ANSWERS for the lines of FILE against this calculation
@@ -12,6 +13,7 @@
 `check` and `against` print a line for every fault, and last the counts; their exit status is 0 where there is no fault.
 `surroundings` counts the clouds that come out above where there is less clutter, with no front held and with the front of request 6; its
 exit status is 0 where none does with that front.
+A line has 44 characters, or 48 where its air pressure is written out: P0 is that of the case in every formula.
 Everything that document 01 decides exactly is decided here with fractions. FILE and ANSWERS may be - for standard input.
 """
 import math
@@ -50,16 +52,20 @@ PROBITS = """267 295 312 325 338 345 352 359 366 372 377 382 386 392 396 401 405
 TABLE3 = list(zip([10 * p for p in range(1, 100)] + list(range(991, 1000)), map(int, PROBITS)))
 assert len(SUBSTANCES) == 76 and len(TABLE3) == 108
 
-P0 = 101300
 C0 = 340
+# The air pressure in units of 10 Pa (request 11): that of a frame that has none, and the place of the field in a case.
+STANDARD = 10130
+AIR = 10
 # The front's speed in m/s: in ranges 2 to 4 the upper end; in 5 and 6 a factor times the sixth root of the mass in kg, and never faster than
 # what closes range 4 (request 6).
 FRONTS = {2: 500, 3: 300, 4: 200}
 FACTORS = {5: 43, 6: 26}
 FASTEST = FRONTS[4]
 HEX = b'0123456789abcdefABCDEF'
-SIZES = (1, 1, 1, 1, 4, 2, 2, 4, 4, 2)
-LIMITS = ((1, 10**9), (1, 50000), (1, 50000), (0, 150000), (1, 10**6), (1, 500))
+SIZES = (1, 1, 1, 1, 4, 2, 2, 4, 4, 2, 2)
+LIMITS = ((1, 10**9), (1, 50000), (1, 50000), (0, 150000), (1, 10**6), (1, 500), (5000, 11000))
+# the bytes of a frame without its air pressure and with it; a line has twice as many characters
+FRAMES = (22, 24)
 ANSWER = 77
 
 
@@ -71,17 +77,17 @@ def damage(thousandths):
 
 
 def fields(frame):
-    """The ten fields of a frame of 22 bytes."""
+    """The eleven fields of a frame; one of 22 bytes has the standard air pressure."""
     out, at = [], 0
     for size in SIZES:
         out.append(int.from_bytes(frame[at:at + size], 'big'))
         at += size
-    return out
+    return out if len(frame) > FRAMES[0] else out[:AIR] + [STANDARD]
 
 
 def decide(line, room=ANSWER):
     """A refusal number, or the accepted case's (fields, speed range, energy, cube of Rx)."""
-    if len(line) != 44:
+    if len(line) not in (2 * size for size in FRAMES):
         return 1
     if any(ch not in HEX for ch in line):
         return 2
@@ -107,12 +113,15 @@ def decide_case(case):
 
 
 def decide_frame(frame, room=ANSWER):
+    """The same for a frame, which has no test 2."""
+    if len(frame) not in FRAMES:
+        return 1
     case = fields(frame)
     refusal = decide_case(case)
     if refusal:
         return refusal
     speed, energy = cloud(case)
-    cube = Fraction(case[8], 100)**3 * P0 / energy
+    cube = cube_of_rx(case, energy)
     if cube > 24**3:
         return 7
     if room < ANSWER:
@@ -120,9 +129,18 @@ def decide_frame(frame, room=ANSWER):
     return case, speed, energy, cube
 
 
+def air_pressure(case):
+    """P0 of a case, in Pa."""
+    return 10 * case[AIR]
+
+
+def cube_of_rx(case, energy):
+    return Fraction(case[8], 100)**3 * air_pressure(case) / energy
+
+
 def cloud(case):
     """The speed range and the energy in joules of a case that has a heat."""
-    substance, state, placement, around, mass, c, s, heat, _, _ = case
+    substance, state, placement, around, mass, c, s, heat, *_ = case
     cls, beta = SUBSTANCES[substance]
     speed = RANGES[cls - 1][around - 1]
     energy = Fraction(mass * (heat if heat else 440 * beta))
@@ -182,7 +200,7 @@ def deflagration(case, speed, cube, rx, fastest=FASTEST):
 
 
 def reduced_distance(case, energy):
-    return mpf(case[8]) / 100 / mp.cbrt(real(energy) / P0)
+    return mpf(case[8]) / 100 / mp.cbrt(real(energy) / air_pressure(case))
 
 
 def reduced(case, speed, energy, cube, fastest=FASTEST):
@@ -199,19 +217,20 @@ def reduced(case, speed, energy, cube, fastest=FASTEST):
     return px, ix, branch
 
 
-def in_units(px, ix, energy):
+def in_units(px, ix, case, energy):
     """Overpressure in Pa and impulse in Pa s."""
-    return px * P0, ix * mp.cbrt(mpf(P0)**2) * mp.cbrt(real(energy)) / C0
+    p0 = air_pressure(case)
+    return px * p0, ix * mp.cbrt(mpf(p0)**2) * mp.cbrt(real(energy)) / C0
 
 
 def values(case, speed, energy, cube):
     """Overpressure, impulse and the five probits, and the name of the branch."""
     px, ix, branch = reduced(case, speed, energy, cube)
-    p, i = in_units(px, ix, energy)
+    p0, (p, i) = air_pressure(case), in_units(px, ix, case, energy)
     probits = (
         5 - mpf('0.26') * mp.log((17500 / p)**mpf('8.4') + (290 / i)**mpf('9.3')),
         5 - mpf('0.22') * mp.log((40000 / p)**mpf('7.4') + (460 / i)**mpf('11.3')),
-        5 - mpf('5.74') * mp.log(mpf('4.2') / (1 + p / P0) + mpf('1.3') * mp.sqrt(P0) * mp.cbrt(case[9]) / i),
+        5 - mpf('5.74') * mp.log(mpf('4.2') / (1 + p / p0) + mpf('1.3') * mp.sqrt(p0) * mp.cbrt(case[9]) / i),
         mpf('-12.6') + mpf('1.524') * mp.log(p),
         5 - mpf('2.44') * mp.log(7380 / p + mpf(1300000000) / (p * i)),
     )
@@ -319,15 +338,21 @@ def check(lines, output):
 
 # Lines to try.
 
+def long_line(case):
+    """The line of a case with its air pressure written out."""
+    return b''.join(value.to_bytes(size, 'big') for value, size in zip(case, SIZES, strict=True)).hex().upper().encode()
+
+
 def frame_line(case):
-    return b''.join(value.to_bytes(size, 'big') for value, size in zip(case, SIZES)).hex().upper().encode()
+    """The line of a case as it is written: standard air is left out."""
+    return long_line(case)[:2 * FRAMES[case[AIR] != STANDARD]]
 
 
 class Source:
-    """Whole numbers that look random and are the same in every version of Python (SplitMix64)."""
+    """Whole numbers that look random and are the same in every version of Python (SplitMix64); and whether cases drawn of them have other airs too."""
 
-    def __init__(self, seed):
-        self.state = seed
+    def __init__(self, seed, airs=False):
+        self.state, self.airs = seed, airs
 
     def below(self, n):
         self.state = (self.state + 0x9E3779B97F4A7C15) % 2**64
@@ -364,16 +389,34 @@ def whole_root(q):
 
 def centimetres(case, rx):
     """The greatest distance in cm at which Rx is not above rx."""
-    return whole_root(Fraction(rx)**3 * 10**6 * cloud(case)[1] / P0)
+    return whole_root(Fraction(rx)**3 * 10**6 * cloud(case)[1] / air_pressure(case))
 
 
 STEPS = tuple(Fraction(text) for text in ('0.2', '0.25', '0.34', '24'))
 
 
+# air pressures at and beside the ends of the permitted ones and the standard one, and such as are not permitted
+AIRS = (5000, 5001, 10129, 10130, 10131, 10999, 11000)
+WRONG_AIRS = (4999, 11001, 0, 65535)
+
+
+def random_air(source):
+    """Mostly the standard air; of a source with airs one in three is another, and half of these are corners."""
+    if not source.airs or source.chance(65):
+        return STANDARD
+    return source.choice(AIRS) if source.chance(50) else 5000 + source.below(6001)
+
+
+def written(source, case):
+    """The line of a case; a source with airs writes the standard one out too, one time in eight."""
+    return long_line(case) if source.airs and source.chance(12) else frame_line(case)
+
+
 def random_case(source):
+    air = random_air(source)
     substance = source.below(76)
     case = [substance, source.below(2), source.below(2), 1 + source.below(4)]
-    case += [source.corner(max(1, low), high) for low, high in LIMITS]
+    case += [source.corner(max(1, low), high) for low, high in LIMITS[:-1]] + [air]
     if source.chance(50) and SUBSTANCES[substance][1] is not None:
         case[7] = 0
     verdict = decide(frame_line(case))
@@ -384,17 +427,26 @@ def random_case(source):
     return case
 
 
+def other_end(source, line):
+    """A line with an air pressure that is not permitted, or cut or lengthened by one to five characters at its end."""
+    if source.chance(50):
+        return line[:44] + b'%04X' % source.choice(WRONG_AIRS)
+    return (line[:44] + b'2792' + b'27')[:source.choice((42, 43, 45, 46, 46, 46, 47, 49))]
+
+
 def random_line(source):
-    line = bytearray(frame_line(random_case(source)))
+    line = bytearray(written(source, random_case(source)))
+    if source.airs and source.chance(6):
+        line = bytearray(other_end(source, line))
     kind = source.below(100)
     if kind < 2:
-        del line[source.below(44)]
+        del line[source.below(len(line))]
     elif kind < 4:
-        line.insert(source.below(45), source.choice(HEX))
+        line.insert(source.below(len(line) + 1), source.choice(HEX))
     elif kind < 6:
-        line[source.below(44)] = source.choice(b'gG @/:`\r\xff\x00')
+        line[source.below(len(line))] = source.choice(b'gG @/:`\r\xff\x00')
     elif kind < 10:
-        at = 2 * source.below(22)
+        at = 2 * source.below(len(line) // 2)
         line[at:at + 2] = b'%02X' % source.choice((0, 1, 2, 5, 76, 255, source.below(256)))
     elif kind < 12:
         # the settings and the bytes beside them, several at once
@@ -406,12 +458,13 @@ def random_line(source):
     return bytes(line)
 
 
-def seeded(words):
-    return Source(int(words[0]) if words else 1)
+def seeded(words, airs=True):
+    return Source(int(words[0]) if words else 1, airs)
 
 
 def random_lines(count, seed):
-    source = seeded(seed)
+    """Lines of 44 characters, but for the damaged ones."""
+    source = seeded(seed, airs=False)
     return [random_line(source) for _ in range(count)]
 
 
@@ -430,15 +483,14 @@ def led_to_bound(source, line):
 
 
 def tried_lines(count, seed):
-    """Random lines, some of them led to the front's bound from the same source afterwards, so that the others are those of random_lines."""
+    """Random lines in any air, some of them led to the front's bound."""
     source = seeded(seed)
-    lines = [random_line(source) for _ in range(count)]
-    return [led_to_bound(source, line) for line in lines]
+    return [led_to_bound(source, random_line(source)) for _ in range(count)]
 
 
 # The data of known_cases.
 
-Q = [0, 0, 0, 1, 100, 1, 1, 1013, 100, 70]
+Q = [0, 0, 0, 1, 100, 1, 1, 1013, 100, 70, STANDARD]
 PROPANE = b'11000104007A1200057803020000B540000027100046'
 # The printed examples: file of the data, line, pressure, impulse, probits and damages in percent as they are printed, '' where nothing is.
 EXAMPLES = (
@@ -459,13 +511,13 @@ NEAR = (
 # figures that are not near, each for one reason: the lower end, the upper end, a refused line, no such figure, a lost sign
 FAR = (
     (0, 32921, 32925, frame_line(Q), 'Q, overpressure from 32,921 on'), (0, 32915, 32920, frame_line(Q), 'Q, overpressure up to 32,920'),
-    (0, -200000, 200000, frame_line(Q[:8] + [2401, 70]), 'Q at 2401 cm, refused'), (12, 0, 200000, frame_line(Q), 'a thirteenth figure'),
+    (0, -200000, 200000, frame_line(Q[:8] + [2401] + Q[9:]), 'Q at 2401 cm, refused'), (12, 0, 200000, frame_line(Q), 'a thirteenth figure'),
     (4, 3109, 3112, PROPANE, 'propane, Pr3 without its sign'),
 )
 
 
 def changed(case, **new):
-    names = ('substance', 'state', 'placement', 'around', 'mass', 'c', 's', 'heat', 'r', 'body')
+    names = ('substance', 'state', 'placement', 'around', 'mass', 'c', 's', 'heat', 'r', 'body', 'air')
     return [new.get(name, value) for name, value in zip(names, case)]
 
 
@@ -502,15 +554,15 @@ def classes():
             for state in (0, 1):
                 for placement in (0, 1):
                     c = 700 if (number + around + state) % 2 else 1400
-                    yield frame_line([substance, state, placement, around, 8000000, c, 770, 0, 4000 * around, 60 + 10 * around])
+                    yield frame_line([substance, state, placement, around, 8000000, c, 770, 0, 4000 * around, 60 + 10 * around, STANDARD])
 
 
-def first_two(verdicts, fastest):
-    """Two cases for every branch of the wave formulas that accepted cases meet."""
+def first_of_each(verdicts, fastest, count=2):
+    """So many cases for every branch of the wave formulas that accepted cases meet."""
     seen = {}
     for verdict in verdicts:
         seen.setdefault(reduced(*verdict, fastest)[2], []).append(verdict[0])
-    return [case for branch in sorted(seen) for case in seen[branch][:2]]
+    return [case for branch in sorted(seen) for case in seen[branch][:count]]
 
 
 def accepted_of(cases):
@@ -525,9 +577,9 @@ def branches(source):
     another; then what is missing of those that they do meet, among them such cases with the mass at the bound.
     """
     several = accepted_of(random_case(source) for _ in range(40000))
-    free = first_two(several, math.inf)
+    free = first_of_each(several, math.inf)
     several = [verdict for verdict in several if verdict[1] in FACTORS]
-    held = first_two(several + accepted_of(at_bound(verdict[0]) for verdict in several), FASTEST)
+    held = first_of_each(several + accepted_of(at_bound(verdict[0]) for verdict in several), FASTEST)
     for case in free + [case for case in held if case not in free]:
         yield frame_line(case)
 
@@ -543,17 +595,27 @@ CUBES = (
 )
 
 
+def cube_in(air, number):
+    """One of these cases in another air: a tenth of its mass, and the air pressure's own number for the heat."""
+    case, side = CUBES[number]
+    moved = changed(case, mass=case[4] // 10, heat=air, air=air)
+    assert cloud(moved)[1] == air_pressure(moved) * side**3
+    return moved, side
+
+
+assert all(cloud(case)[1] == air_pressure(case) * side**3 for case, side in CUBES)
+
+
 def boundaries():
     """Rx at 0.2, 0.25, 0.34 and 24 exactly, and one cm to each side."""
     for case, side in CUBES:
-        assert cloud(case)[1] == P0 * side**3
         for step in STEPS:
             for r in (-1, 0, 1):
                 yield frame_line(changed(case, r=int(100 * side * step) + r))
 
 
 # petrol and methane: range 5 and 6 in an open field
-PETROL = [30, 0, 1, 4, 500000000, 700, 770, 0, 20000, 70]
+PETROL = [30, 0, 1, 4, 500000000, 700, 770, 0, 20000, 70, STANDARD]
 METHANE = changed(PETROL, substance=65)
 
 
@@ -574,17 +636,21 @@ def fronts():
                 yield frame_line(changed(case, around=around, mass=mass, r=100 * metres))
 
 
+# The least I, Pr1, Pr2 and Pr3; the least overpressure, with Rx at 24; the greatest of all.
+LEAST_IMPULSE = b'3A01000400000001C3500001000000010000000101F4'
+LEAST_PRESSURE = b'3A010104000000010003000200018BB40000096001F4'
+GREATEST = b'000001013B9ACA0000010001000249F0000000010001'
+
+
 def extremes():
     """The ends of every field, at 1 cm and at the farthest distance that is accepted."""
-    yield b'3A01000400000001C3500001000000010000000101F4'
-    yield b'3A010104000000010003000200018BB40000096001F4'
-    yield b'000001013B9ACA0000010001000249F0000000010001'
+    yield from (LEAST_IMPULSE, LEAST_PRESSURE, GREATEST)
     for mass in (1, 10**9):
         for heat in (1, 150000):
             for c in (1, 50000):
                 for substance, around in ((0, 1), (11, 2), (75, 4)):
                     state = (mass + heat + c + around) % 2
-                    case = [substance, state, 0, around, mass, c, 1, heat, 1, 500]
+                    case = [substance, state, 0, around, mass, c, 1, heat, 1, 500, STANDARD]
                     yield frame_line(case)
                     yield frame_line(changed(case, state=1 - state, r=min(10**6, centimetres(changed(case, state=1 - state), 24)), body=1))
 
@@ -597,11 +663,17 @@ SPOILED = (
     (5, dict(heat=150001)), (5, dict(r=0)), (5, dict(r=10**6 + 1)), (5, dict(body=0)), (5, dict(body=501)),
     (6, dict(heat=0)), (7, dict(r=2401)), (7, dict(r=10**6)),
 )
+AIR_SPOILED = tuple((5, dict(air=air)) for air in WRONG_AIRS)
 # one for each test on a case, in the order of the tests
 ORDER = (
     (3, dict(substance=76)), (12, dict(state=2)), (13, dict(placement=2)), (14, dict(around=5)), (5, dict(body=0)), (6, dict(heat=0)),
     (7, dict(r=10**6)),
 )
+
+
+def random_fault(source):
+    """What brings a refusal about; with airs the air pressure is among it."""
+    return source.choice(SPOILED + AIR_SPOILED if source.airs else SPOILED)[1]
 
 
 def refusals():
@@ -627,6 +699,105 @@ def refusals():
         yield line, room
     yield frame_line(changed(Q, r=2401)), 0
     yield line, ANSWER
+
+
+def air_refusals():
+    """The same of lines with an air pressure: other lengths, other characters in it, its limits, each test with it, and too little room."""
+    case = changed(Q, air=5000)
+    line = long_line(case)
+    for other in (frame_line(Q) + b'27', line[:46], line[:45], line[:47], line + b'0', line + b'\r', line + b'00', b'x' + line[1:46]):
+        yield other, ANSWER
+    for at, ch in ((44, b'G'), (47, b'g'), (45, b' '), (46, b'\x00'), (0, b'/')):
+        yield line[:at] + ch + line[at + 1:], ANSWER
+    for air in WRONG_AIRS:
+        spoiled = long_line(changed(Q, air=air))
+        for other in (spoiled, spoiled[:46], spoiled[:43] + b'g' + spoiled[44:]):
+            yield other, ANSWER
+    for place, (number, one) in enumerate(ORDER):
+        spoiled = long_line(changed(case, **{**one, 'air': WRONG_AIRS[place % 2]}))
+        assert decide(spoiled) == (number if place < 4 else 5)
+        yield spoiled, ANSWER
+        yield long_line(changed(case, **one)), 76
+    for room, other in ((76, line), (0, line), (0, long_line(changed(Q, air=4999))), (ANSWER, line), (ANSWER, long_line(Q)), (76, long_line(Q))):
+        yield other, room
+    # beyond by its own air or by the standard one alone
+    yield from ((long_line(changed(Q, r=r, air=air)), ANSWER) for r, air in ((2400, 10131), (2400, 11000), (2401, 5000), (2400, 10129)))
+
+
+def in_air(case, air):
+    """The case in another air; Rx stays, or almost, where the distance can follow."""
+    return changed(case, air=air, r=min(10**6, max(1, whole_root(Fraction(case[8]**3 * case[AIR], air)))))
+
+
+def beside(case, step):
+    """The case with the last mass in grams at which Rx is not below a step at the case's distance, and with the next."""
+    grams = cube_of_rx(case, cloud(changed(case, mass=1))[1]) / step**3
+    mass = min(LIMITS[0][1] - 1, max(1, grams.numerator // grams.denominator))
+    return [changed(case, mass=mass), changed(case, mass=mass + 1)]
+
+
+def close_cases(air):
+    """Cases whose Rx only an exact test tells from 0.2, 0.25, 0.34 or 24: in one state, and in both with a deflagration."""
+    for substance, state, step in ((0, 0, 0), (0, 1, 1), (0, 0, 3), (65, 0, 2), (65, 1, 1), (65, 1, 2), (65, 1, 3)):
+        case = [substance, state, 0, 1 if substance == 0 else 2, 1, 1, 1, 1013, int(19000 * STEPS[step]) + 1, 70, air]
+        yield from beside(case, STEPS[step])
+
+
+def known_in_airs():
+    """Q in both states and propane, in the airs at the ends and beside the standard one, which is written out; some in small letters."""
+    propane = fields(bytes.fromhex(PROPANE.decode()))
+    for number, air in enumerate(AIRS):
+        for case in (Q, changed(Q, state=1), propane):
+            line = long_line(changed(case, air=air))
+            yield line.lower() if number % 3 == 1 else line
+
+
+def branches_in_airs(source):
+    """A case for every branch that cases meet, at each end of the air pressure."""
+    cases = [verdict[0] for verdict in accepted_of(random_case(source) for _ in range(12000))]
+    cases += [at_bound(case) for case in cases if cloud(case)[0] in FACTORS]
+    ways = {reduced(*verdict)[2] for verdict in accepted_of(cases)}
+    for air in LIMITS[-1]:
+        found = first_of_each(accepted_of(in_air(case, air) for case in cases), FASTEST, 1)
+        assert {reduced(*verdict)[2] for verdict in accepted_of(found)} == ways
+        yield from map(long_line, found)
+
+
+def boundaries_in_airs():
+    """Rx at 0.2, 0.25, 0.34 and 24 exactly and the cm on the other side, in the air of each end; then a gram beside, in those next to the standard."""
+    for number in range(len(CUBES)):
+        case, side = cube_in(LIMITS[-1][number % 2], number)
+        for step in STEPS:
+            r = int(100 * side * step)
+            yield from (long_line(changed(case, r=other)) for other in ((r, r + 1) if step == 24 else (r - 1, r)))
+    for air in (10129, 10131):
+        yield from map(long_line, close_cases(air))
+
+
+def extremes_in_airs():
+    """The lines of the extremes at both ends of the air pressure, the least ones with Rx at 24 again; then the ends of other fields."""
+    impulse, pressure = (fields(bytes.fromhex(line.decode())) for line in (LEAST_IMPULSE, LEAST_PRESSURE))
+    for air, r, c in ((5000, 2, 25920), (11000, 2, 11781)):
+        for line in (LEAST_IMPULSE, LEAST_PRESSURE, GREATEST):
+            yield line + b'%04X' % air
+        least = changed(pressure, heat=10 * air, air=air)
+        assert decide(long_line(least))[3] == 24**3
+        yield from (long_line(least), long_line(changed(impulse, c=c, r=r, air=air)))
+        for mass in (1, 10**9):
+            for heat, (substance, around, state) in ((1, (0, 1, 0)), (150000, (11, 2, 1)), (150000, (75, 4, 0))):
+                case = [substance, state, 0, around, mass, 1, 1, heat, 1, 500, air]
+                yield long_line(changed(case, r=1 if air == 5000 else min(10**6, centimetres(case, 24))))
+
+
+def airs():
+    """Lines of 48 characters."""
+    source = Source(11, airs=True)
+    several = (random_line(source) for _ in range(75))
+    yield from known_in_airs()
+    yield from branches_in_airs(Source(11))
+    yield from boundaries_in_airs()
+    yield from extremes_in_airs()
+    yield from (line for line in several if len(line) == 48)
 
 
 UNIT = 10**12
@@ -704,8 +875,8 @@ def vectors(directory):
     source = Source(1)
     groups = (
         ('known', known()), ('examples', (example[1] for example in EXAMPLES)), ('substances', substances()), ('classes', classes()),
-        ('branches', branches(source)), ('boundaries', [*boundaries(), *fronts()]), ('extremes', extremes()), ('refusals', refusals()),
-        ('random', (random_line(source) for _ in range(120))),
+        ('branches', branches(source)), ('boundaries', [*boundaries(), *fronts()]), ('extremes', extremes()),
+        ('refusals', [*refusals(), *air_refusals()]), ('random', (random_line(source) for _ in range(120))), ('airs', airs()),
     )
     for name, several in groups:
         with open(os.path.join(directory, name), 'wb') as file:
@@ -742,7 +913,7 @@ def rises(case, fastest):
     both = accepted_of(changed(case, around=case[3] + more) for more in (0, 1))
     if len(both) < 2:
         return None
-    here, there = (in_units(*reduced(*verdict, fastest)[:2], verdict[2]) for verdict in both)
+    here, there = (in_units(*reduced(*verdict, fastest)[:2], verdict[0], verdict[2]) for verdict in both)
     return [after > before for before, after in zip(here, there)]
 
 

@@ -1,5 +1,5 @@
 /* Rings through both entries for C. Reads requests, a line each: a threshold in decimal, a space, a case's line. Prints for each its number,
-   the answer from the line, and the answer from the frame that the line spells, - where it is not 44 hexadecimal digits.
+   the answer from the line, and the answer from the frame that the line spells, - where it is not 44 or 48 hexadecimal digits.
    An answer is inner..outer, or R and the refusal's number; `changed` where a refusal gave a lent number another value. */
 #define _POSIX_C_SOURCE 200809L
 #include "yakepuhi.h"
@@ -23,13 +23,16 @@ static void print_answer(uint64_t refusal, uint64_t inner, uint64_t outer)
         printf(" R%" PRIu64, refusal);
 }
 
-/* The bytes that 44 hexadecimal digits spell; 0 for any other line. */
-static int spell(const char *line, size_t length, uint8_t frame[YAKEPUHI_FRAME])
+/* The bytes of a frame without and with its air pressure. */
+enum { SHORT = 22, LONG = 24 };
+
+/* The bytes that 44 or 48 hexadecimal digits spell; 0 for any other line. */
+static int spell(const char *line, size_t length, uint8_t frame[LONG])
 {
     static const char digits[] = "0123456789abcdef0123456789ABCDEF";
-    if (length != YAKEPUHI_LINE)
+    if (length != 2 * SHORT && length != 2 * LONG)
         return 0;
-    for (size_t i = 0; i < YAKEPUHI_LINE; i++) {
+    for (size_t i = 0; i < length; i++) {
         const char *at = memchr(digits, line[i], sizeof digits - 1);
         if (at == NULL)
             return 0;
@@ -41,13 +44,13 @@ static int spell(const char *line, size_t length, uint8_t frame[YAKEPUHI_FRAME])
 
 static void answer(const char *line, size_t length, uint64_t threshold)
 {
-    uint8_t frame[YAKEPUHI_FRAME];
+    uint8_t frame[LONG];
     uint64_t inner = MARK_INNER, outer = MARK_OUTER;
     uint64_t refusal = yakepuhi_ring_from_line((const uint8_t *)line, length, threshold, &inner, &outer);
     print_answer(refusal, inner, outer);
     if (spell(line, length, frame)) {
         inner = MARK_INNER, outer = MARK_OUTER;
-        refusal = yakepuhi_ring_from_frame(frame, sizeof frame, threshold, &inner, &outer);
+        refusal = yakepuhi_ring_from_frame(frame, length / 2, threshold, &inner, &outer);
         print_answer(refusal, inner, outer);
     } else
         printf(" -");

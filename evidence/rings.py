@@ -1,11 +1,13 @@
 #!/usr/bin/env python3
-"""A separate calculation of rings (request 1) in 60 digits, with the front of request 6 and the width of request 10, written from the papers alone.
+"""A separate calculation of rings (request 1) in 60 digits, with the front of request 6, the width of request 10 and the air of request 11, written
+from the papers alone.
 
   rings.py lines FILE                             what fits each request of FILE, from the tightest ends to the widest
   rings.py vectors DIRECTORY                      the files stdin and stdout of the program known_rings, the same at every run
   rings.py against RECKON ARCHIVE COUNT [SEED]    COUNT random requests through both entries of ARCHIVE, each answer checked
 
-A request is a line: a threshold in decimal, a space, a case's line. An answer is `inner..outer`, or R and the refusal's number.
+A request is a line: a threshold in decimal, a space, a case's line of 44 or 48 characters. A threshold is at most 18 times the case's own P0. An
+answer is `inner..outer`, or R and the refusal's number.
 `against` holds each answer against the ends that the program RECKON prints at the ring's distances and against this calculation.
 It prints a line for every fault, and last the counts; its exit status is 0 where there is no fault. FILE may be - for standard input.
 """
@@ -15,17 +17,20 @@ import os
 import subprocess
 import sys
 import tempfile
-from fractions import Fraction
 
 from mpmath import mp, mpf
 
-from reference import (CUBES, HEX, LAST_FREE, LIMITS, METHANE, ORDER, P0, PETROL, PROPANE, Q, SPOILED, STEPS, Source, answer, centimetres, changed,
-                       cloud, contents, decide, fields, frame_line, greatest_upper, least_lower, lines_of, random_case, random_line, reduced, seeded)
-
-MOST = 18 * P0  # the greatest threshold, and the overpressure of a detonation's near field
+from reference import (AIRS, CUBES, FRAMES, HEX, LAST_FREE, LIMITS, METHANE, ORDER, PETROL, PROPANE, Q, SPOILED, STANDARD, STEPS, WRONG_AIRS, Source,
+                       air_pressure, answer, centimetres, changed, cloud, contents, cube_in, cube_of_rx, decide, fields, frame_line, greatest_upper,
+                       least_lower, lines_of, long_line, random_air, random_case, random_fault, random_line, reduced, seeded, written)
 
 
 # The exact side.
+
+def most_of(case):
+    """The greatest threshold of a case, and the overpressure of a detonation's near field."""
+    return 18 * air_pressure(case)
+
 
 class Curve:
     """The exact overpressure of a case over the distance in cm, up to the last that is not beyond; the case's own distance is not used."""
@@ -38,8 +43,8 @@ class Curve:
 
     def at(self, r):
         if r not in self.known:
-            cube = Fraction(r, 100)**3 * P0 / self.energy
-            value = reduced(changed(self.case, r=r), self.speed, self.energy, cube)[0] * P0
+            moved = changed(self.case, r=r)
+            value = reduced(moved, self.speed, self.energy, cube_of_rx(moved, self.energy))[0] * air_pressure(moved)
             near = mp.nint(value)
             # a value that is whole to 40 places is taken for whole
             self.known[r] = near if abs(value - near) < mpf(10)**-40 else value
@@ -82,7 +87,7 @@ def due(threshold, line):
     case = case_of(line)
     if isinstance(case, int):
         return case
-    return Curve(case) if 1 <= threshold <= MOST else 9
+    return Curve(case) if 1 <= threshold <= most_of(case) else 9
 
 
 def ring(curve, threshold, ends):
@@ -142,7 +147,7 @@ def parsed(word):
 
 
 def spells(line):
-    return len(line) == 44 and all(ch in HEX for ch in line)
+    return len(line) in (2 * size for size in FRAMES) and all(ch in HEX for ch in line)
 
 
 def form_faults(number, line, found, record):
@@ -232,19 +237,25 @@ def check(reckon, requests, records):
 
 # Requests to try.
 
-EDGES = (0, 1, 2, 3, MOST - 1, MOST, MOST + 1, 2**32, 2**32 + 28000, 10**15)
+def edges_of(case):
+    most = most_of(case)
+    return 0, 1, 2, 3, most - 1, most, most + 1, 2**32, 2**32 + 28000, 10**15
+
+
+# the greatest thresholds of other airs than the case's own
+OTHER_EDGES = tuple(180 * air + more for air in (LIMITS[-1][0], STANDARD, LIMITS[-1][1]) for more in (0, 1))
 
 
 def smallest(source):
     """A cloud that is beyond after a few cm."""
     return [source.below(76), source.below(2), source.below(2), 1 + source.below(4), 1 + source.below(3), 50000 - source.below(9999),
-            1 + source.below(3), 1 + source.below(2), 1 + source.below(9), 70]
+            1 + source.below(3), 1 + source.below(2), 1 + source.below(9), 70, random_air(source)]
 
 
 def largest(source):
     """A cloud that is not beyond at 1,000,000 cm."""
     return [source.below(76), source.below(2), source.below(2), 1 + source.below(4), 10**9 - source.below(5 * 10**8), 1, 1,
-            150000 - source.below(10**5), 1 + source.below(10**6), 70]
+            150000 - source.below(10**5), 1 + source.below(10**6), 70, random_air(source)]
 
 
 def random_place(source, curve):
@@ -253,35 +264,36 @@ def random_place(source, curve):
     return min(curve.farthest, max(1, r))
 
 
-def random_threshold(source, ends):
+def random_threshold(source, case, ends):
     """At the limits and outside, at one of the ends or beside it, or spread over the logarithm."""
-    kind = source.below(8)
+    kind, most = source.below(8), most_of(case)
     if kind == 0:
-        return source.choice(EDGES + (2**64 - 1, source.below(9), MOST - 4 + source.below(9)))
+        return source.choice(edges_of(case) + OTHER_EDGES + (2**64 - 1, source.below(9), most - 4 + source.below(9)))
     if kind < 5:
         return max(0, source.choice(ends) + source.below(3) - 1)
-    top = 1 << source.below(MOST.bit_length())
-    return min(MOST, top + source.below(top))
+    top = 1 << source.below(most.bit_length())
+    return min(most, top + source.below(top))
 
 
 def random_cloud(source):
-    """A line: of the smallest clouds, of the largest, without its heat, or any; one in ten of these is damaged."""
+    """A line: of the smallest clouds, of the largest, without its heat, with a fault, or any; one in ten of these is damaged."""
     kind = source.below(32)
     if kind < 4:
-        return frame_line((smallest, largest)[kind % 2](source))
+        return written(source, (smallest, largest)[kind % 2](source))
     if kind == 4:
-        return frame_line(changed(random_case(source), substance=source.choice((0, 25, 47)), heat=0))
-    return random_line(source)
+        return written(source, changed(random_case(source), substance=source.choice((0, 25, 47)), heat=0))
+    return written(source, changed(random_case(source), **random_fault(source))) if kind == 5 else random_line(source)
 
 
 def random_requests(reckon, count, source):
     """Random clouds with thresholds that lean to their own ends; a refused one has those of Q."""
-    lines, places = [random_cloud(source) for _ in range(count)], []
+    lines, curves, places = [random_cloud(source) for _ in range(count)], [], []
     for line in lines:
         case = case_of(line)
-        curve = Curve(Q if isinstance(case, int) else case)
-        places.append(frame_line(changed(curve.case, r=random_place(source, curve))))
-    return [(random_threshold(source, ends), line) for ends, line in zip(reckoned(reckon, places), lines)]
+        curves.append(Curve(Q if isinstance(case, int) else case))
+        places.append(frame_line(changed(curves[-1].case, r=random_place(source, curves[-1]))))
+    found = zip(curves, reckoned(reckon, places), lines)
+    return [(random_threshold(source, curve.case, ends), line) for curve, ends, line in found]
 
 
 def against(reckon, archive, count, seed):
@@ -294,10 +306,10 @@ def against(reckon, archive, count, seed):
 MARGIN = mpf(10)**-6
 
 
-def moved(sign):
+def moved(sign, most):
     """The tightest ends moved outward (1) or inward (-1) by a millionth of the value; the near field's value is whole, and stays."""
     def apart(value, by):
-        return value if value == MOST else value * (1 + by * MARGIN)
+        return value if value == most else value * (1 + by * MARGIN)
     return lambda value: floor(apart(value, -sign)), lambda value: ceiling(apart(value, sign))
 
 
@@ -306,12 +318,13 @@ def determined(threshold, line):
     found = due(threshold, line)
     if isinstance(found, int):
         return found
-    outward, inward = (ring(found, threshold, moved(sign)) for sign in (1, -1))
+    outward, inward = (ring(found, threshold, moved(sign, most_of(found.case))) for sign in (1, -1))
     return outward if outward == inward else None
 
 
-SMALLEST = [58, 1, 0, 4, 1, 50000, 1, 1, 1, 500]
-LARGEST = [0, 0, 1, 1, 10**9, 1, 1, 150000, 1, 1]
+MOST = most_of(Q)
+SMALLEST = [58, 1, 0, 4, 1, 50000, 1, 1, 1, 500, STANDARD]
+LARGEST = [0, 0, 1, 1, 10**9, 1, 1, 150000, 1, 1, STANDARD]
 
 
 def known():
@@ -331,7 +344,7 @@ def known():
 def edges():
     """The limits of the threshold, and numbers outside them."""
     for case in (Q, SMALLEST, LARGEST):
-        for threshold in EDGES:
+        for threshold in edges_of(case):
             yield threshold, frame_line(case)
 
 
@@ -397,7 +410,7 @@ def speeds(source):
         for around in range(1, 5):
             for state in (0, 1):
                 c = 700 if (number + around) % 2 else 1400
-                case = [substance, state, (around + state) % 2, around, 10**(3 + source.below(6)), c, 770, 0, 4000 * around, 60]
+                case = [substance, state, (around + state) % 2, around, 10**(3 + source.below(6)), c, 770, 0, 4000 * around, 60, STANDARD]
                 yield from found_rings(case, [source.corner(1, Curve(case).farthest) for _ in range(20)], 1)
 
 
@@ -428,11 +441,59 @@ def fronts():
         yield 30000, frame_line(changed(PETROL, around=around))  # the rings of docs/frames.md
 
 
+def airs():
+    """Rings in other airs: the propane example, the standard air written out, every way to a threshold's limit."""
+    propane = fields(bytes.fromhex(PROPANE.decode()))
+    for number, air in enumerate(AIRS):
+        for threshold in (28000, 5000)[:2 if air in LIMITS[-1] else 1]:
+            line = long_line(changed(propane, air=air))
+            yield threshold, line.lower() if number % 2 else line
+    for air in LIMITS[-1] + (10129, 10131):
+        case, _ = cube_in(air, 0)
+        yield from ((threshold, long_line(case)) for threshold in (most_of(case), most_of(case) + 1))
+    yield from ((threshold, long_line(Q)) for threshold in (MOST, MOST + 1))
+    # above the limit of the case and below the standard one, or the other way about, of a detonation and of a deflagration
+    for air, threshold in ((5000, MOST), (11000, MOST + 1)):
+        yield from ((threshold, long_line(cube_in(air, number)[0])) for number in (1, 8))
+
+
+def air_edges():
+    """In the air of each end: inside a near field's jump, below Rx 0.34, at Rx 24, and clouds that are beyond after some cm or not at 1,000,000."""
+    for number, air in ((2, 5000), (4, 11000)):
+        curve = Curve(cube_in(air, number)[0])
+        after = floor(curve.at(last_reaching(curve, floor, most_of(curve.case)) + 1))
+        yield from ((threshold, long_line(curve.case)) for threshold in (after - 3, after + 3))
+    for number, air in ((5, 5000), (8, 11000)):
+        curve = Curve(cube_in(air, number)[0])
+        yield from ((floor(curve.at(1)) + more, long_line(curve.case)) for more in (-1, 1))
+    for number, air in ((3, 5000), (4, 11000), (8, 11000)):
+        curve = Curve(cube_in(air, number)[0])
+        yield from ((ceiling(curve.at(curve.farthest)) + more, long_line(curve.case)) for more in (0, 1))
+    for air in LIMITS[-1]:
+        least = Curve(changed(SMALLEST, substance=0, around=1, s=5, air=air))
+        yield from ((floor(least.at(r)), long_line(least.case)) for r in (1, least.farthest))
+        most = Curve(changed(LARGEST, air=air))
+        yield floor(most.at(most.farthest)), long_line(most.case)
+        yield from found_rings(most.case, range(400000, 500000, 3000), 1)
+
+
+def air_refusals():
+    """The tests with an air pressure, each with thresholds past the limit; a case's own distance that is beyond in its air."""
+    case, several = changed(Q, substance=47, around=4, air=11000), (100, 0, 10**7)
+    line = long_line(case)
+    damaged = [line[:46], line[:45], line[:47], line + b'0', b'x' + line[1:46], line[:44] + b'G' + line[45:], line[:47] + b' ']
+    damaged += [long_line(changed(case, air=air)) for air in WRONG_AIRS]
+    damaged += [long_line(changed(case, **{**one, 'air': 4999})) for _, one in ORDER[:-1]]
+    damaged += [long_line(changed(case, **one)) for _, one in ORDER[-2:]]
+    for number, text in enumerate(damaged):
+        yield several[number % 3], text
+
+
 def vectors(directory):
     """A request is kept where its answer is determined: any ends that err by less than a millionth of the value give it."""
     source, kept = Source(1), {}
     groups = known(), edges(), refusals(), jumps(), flats(), limits(), nearest(), speeds(source), far(source), at_random(source), fronts()
-    for both in itertools.chain(*groups):
+    for both in itertools.chain(*groups, airs(), air_edges(), air_refusals()):
         kept[both] = determined(*both)
     kept = [(both, spelled(verdict).encode()) for both, verdict in kept.items() if verdict is not None]
     with open(os.path.join(directory, 'stdin'), 'wb') as requests, open(os.path.join(directory, 'stdout'), 'wb') as records:

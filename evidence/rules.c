@@ -1,5 +1,6 @@
 /* The rules of cases through the entry for C. Reads lines and prints for each its number and the answer from the frame that it spells, - where it
-   is not 44 hexadecimal digits. A space and a number behind the digits: the length that the entry is told, up to 64, in place of 22.
+   is not 44 or 48 hexadecimal digits. A space and a number behind the digits: the length that the entry is told, up to 64, in place of 22 or 24;
+   the bytes behind those of the digits are 0.
    An answer is the rule of the overpressure, a comma and the rule of the impulse, or R and the refusal's number; `changed` where a refusal gave
    a lent number another value. */
 #define _POSIX_C_SOURCE 200809L
@@ -14,13 +15,14 @@
 #define MARK_PRESSURE UINT64_C(0xEEEEEEEEEEEEEEEE)
 #define MARK_IMPULSE UINT64_C(0xDDDDDDDDDDDDDDDD)
 
-enum { ROOM = 64 };
+/* The bytes of a frame without and with its air pressure, and those that are lent. */
+enum { SHORT = 22, LONG = 24, ROOM = 64 };
 
-/* The bytes that 44 hexadecimal digits spell; 0 for any other character among them. */
-static int spell(const char *line, uint8_t frame[ROOM])
+/* The bytes that the digits of a line spell; 0 for any other character among them. */
+static int spell(const char *line, size_t length, uint8_t frame[ROOM])
 {
     static const char digits[] = "0123456789abcdef0123456789ABCDEF";
-    for (size_t i = 0; i < YAKEPUHI_LINE; i++) {
+    for (size_t i = 0; i < length; i++) {
         const char *at = memchr(digits, line[i], sizeof digits - 1);
         if (at == NULL)
             return 0;
@@ -30,20 +32,27 @@ static int spell(const char *line, uint8_t frame[ROOM])
     return 1;
 }
 
-/* The length that a line tells; past ROOM for a line of another form. */
-static size_t told_length(const char *line, size_t length)
+/* How many digits a line has: all its characters, or those before its first space. */
+static size_t digits_of(const char *line, size_t length)
 {
-    if (length == YAKEPUHI_LINE)
-        return YAKEPUHI_FRAME;
-    return length > YAKEPUHI_LINE + 1 && line[YAKEPUHI_LINE] == ' ' ? strtoul(line + YAKEPUHI_LINE + 1, NULL, 10) : ROOM + 1;
+    const char *space = memchr(line, ' ', length);
+    return space == NULL ? length : (size_t)(space - line);
+}
+
+/* The length that a line tells; past ROOM for a line of another form. */
+static size_t told_length(const char *line, size_t length, size_t digits)
+{
+    if (digits != 2 * SHORT && digits != 2 * LONG)
+        return ROOM + 1;
+    return length == digits ? digits / 2 : strtoul(line + digits + 1, NULL, 10);
 }
 
 static void print_answer(const char *line, size_t length)
 {
     uint8_t frame[ROOM] = { 0 };
     uint64_t pressure = MARK_PRESSURE, impulse = MARK_IMPULSE;
-    size_t told = told_length(line, length);
-    if (told > ROOM || !spell(line, frame)) {
+    size_t digits = digits_of(line, length), told = told_length(line, length, digits);
+    if (told > ROOM || !spell(line, digits, frame)) {
         printf(" -\n");
         return;
     }

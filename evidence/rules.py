@@ -1,6 +1,6 @@
 #!/usr/bin/env python3
-"""A separate calculation of the rules that give ΔP and I (request 5) in 60 digits, with the front of request 6 and the width of request 10,
-written from the papers alone.
+"""A separate calculation of the rules that give ΔP and I (request 5) in 60 digits, with the front of request 6, the width of request 10 and the air
+of request 11, written from the papers alone.
 
   rules.py lines FILE                      the rules of each line of FILE, and the figure by each rule
   rules.py vectors DIRECTORY               the files stdin and stdout of the program known_rules, the same at every run
@@ -20,15 +20,15 @@ from fractions import Fraction
 
 from mpmath import mp, mpf
 
-from reference import (CUBES, LAST_FREE, LIMITS, METHANE, ORDER, P0, PETROL, PROPANE, Q, SPOILED, STEPS, Source, centimetres, changed, cloud, contents,
-                       decide, deflagration, detonation, fields, frame_line, greatest_upper, in_units, least_lower, lines_of, random_case, random_line,
-                       reduced_distance, seeded)
+from reference import (CUBES, LAST_FREE, LIMITS, METHANE, ORDER, PETROL, PROPANE, Q, SPOILED, STANDARD, STEPS, WRONG_AIRS, Source, beside,
+                       centimetres, changed, close_cases, cloud, contents, cube_in, cube_of_rx, decide, decide_frame, deflagration, detonation, fields,
+                       frame_line, greatest_upper, in_units, least_lower, lines_of, long_line, random_air, random_case, random_fault,
+                       random_line, reduced_distance, seeded, written)
 from rings import spells
 
 UNDECIDED, NEAR_FIELD, DETONATION, DEFLAGRATION, AT_034 = range(5)
 PRESSURE, IMPULSE = 0, 1
 NAMES = ('pressure', 'impulse')
-LENGTH = 22
 
 
 # The exact side.
@@ -37,10 +37,10 @@ def figures(case, speed, energy, cube):
     """For ΔP and for I: the figure by each rule, in Pa or in Pa s, with the rule's number; the smaller first. Range 1 has one rule."""
     rx = reduced_distance(case, energy)
     px, ix, near = detonation(case[1], cube, rx)
-    several = [(in_units(px, ix, energy), NEAR_FIELD if near else DETONATION)]
+    several = [(in_units(px, ix, case, energy), NEAR_FIELD if near else DETONATION)]
     if speed >= 2:
         px, ix, under = deflagration(case, speed, cube, rx)
-        several.append((in_units(px, ix, energy), AT_034 if under else DEFLAGRATION))
+        several.append((in_units(px, ix, case, energy), AT_034 if under else DEFLAGRATION))
     return [sorted((wave[figure], rule) for wave, rule in several) for figure in (PRESSURE, IMPULSE)]
 
 
@@ -79,7 +79,8 @@ LEAST = ((Fraction('3.8828'), Fraction('0.3799')), (Fraction(24), Fraction('0.5'
 def case_at(case, r):
     """The case at another distance, with its range, its energy and the cube of Rx."""
     speed, energy = cloud(case)
-    return changed(case, r=r), speed, energy, Fraction(r, 100)**3 * P0 / energy
+    moved = changed(case, r=r)
+    return moved, speed, energy, cube_of_rx(moved, energy)
 
 
 def detonates(case, figure, r):
@@ -126,13 +127,19 @@ def touching_mass(case, figure):
 
 HERE = os.path.dirname(os.path.abspath(__file__))
 
-# A case's line, the length that is told, where it is from, and the figures that are counted there.
-Request = collections.namedtuple('Request', 'line told place counted')
+# A case's line, where it is from, the figures that are counted there, and the length that is told of its frame, None for its own.
+Request = collections.namedtuple('Request', 'line place counted told', defaults=(None,))
+
+
+def verdict_of(request):
+    """What is due for a frame of the length that is told: the line's bytes, and zeros behind them."""
+    frame = bytes.fromhex(request.line.decode())
+    return decide_frame(frame if request.told is None else frame.ljust(request.told, b'\x00')[:request.told])
 
 
 def driven(archive, requests):
     """The records of the driver rules.c, linked with the archive."""
-    text = b''.join(q.line + (b'\n' if q.told == LENGTH else b' %d\n' % q.told) for q in requests)
+    text = b''.join(q.line + (b'\n' if q.told is None else b' %d\n' % q.told) for q in requests)
     with tempfile.TemporaryDirectory() as directory:
         program = os.path.join(directory, 'rules')
         subprocess.run([os.environ.get('CC', 'gcc'), '-std=c11', '-O2', '-Wall', '-Wextra', '-pedantic', '-I' + os.path.join(HERE, '..', 'link'),
@@ -192,7 +199,7 @@ def faults(number, request, record, tally):
     stands = parsed(word)
     if stands is None or head != str(number):
         return ['the record is %s' % record]
-    verdict = decide(request.line) if request.told == LENGTH else 1
+    verdict = verdict_of(request)
     if isinstance(verdict, int):
         tally.refused[stands if isinstance(stands, int) else 0] += 1
         return [] if stands == verdict else ['R%d is due, %s stands' % (verdict, word)]
@@ -217,14 +224,7 @@ def check(requests, records):
 
 # Cases to try.
 
-LENGTHS = (0, 1, 10, 21, 23, 24, 43, 44, 45, 64)
-
-
-def beside(case, step):
-    """The case with the last mass in grams at which Rx is not below a step at the case's distance, and with the next."""
-    grams = Fraction(case[8], 100)**3 * P0 / step**3 / cloud(changed(case, mass=1))[1]
-    mass = min(LIMITS[0][1] - 1, max(1, grams.numerator // grams.denominator))
-    return [changed(case, mass=mass), changed(case, mass=mass + 1)]
+LENGTHS = (0, 1, 10, 21, 22, 23, 23, 24, 25, 43, 44, 45, 48, 64)
 
 
 def random_edge(source):
@@ -233,29 +233,29 @@ def random_edge(source):
     if source.chance(50):
         case = random_deflagration(source, source.choice((1, 2)))
         return source.choice(beside(changed(case, r=max(1, min(LIMITS[4][1], centimetres(case, step)))), step))
-    case, side = source.choice(CUBES)
+    case, side = cube_in(random_air(source), source.below(len(CUBES)))
     times = 1 + source.below(40)
     return changed(case, mass=case[4] * times**3, r=int(100 * side * times * step) + source.choice((-1, 0, 0, 1)))
 
 
 def random_spoiled(source):
     """A case with one thing wrong, or two; half of them of a substance without a table heat."""
-    case, new = random_case(source), dict(source.choice(SPOILED)[1])
+    case, new = random_case(source), dict(random_fault(source))
     if source.chance(50):
         case[0] = source.choice((0, 25, 47))
     if source.chance(50):
-        new.update(source.choice(SPOILED)[1])
+        new.update(random_fault(source))
     return changed(case, **new)
 
 
 def random_request(source):
     """A random case, one in ten at an edge of Rx or spoiled; a line that spells no frame becomes a frame of another length."""
-    line, told = random_line(source), LENGTH
+    line, told = random_line(source), None
     if not spells(line):
-        line, told = frame_line(random_case(source)), source.choice(LENGTHS)
+        line, told = written(source, random_case(source)), source.choice(LENGTHS)
     elif source.chance(10):
-        line = frame_line(source.choice((random_edge, random_spoiled))(source))
-    return Request(line, told, 'of random cases', (PRESSURE, IMPULSE))
+        line = written(source, source.choice((random_edge, random_spoiled))(source))
+    return Request(line, 'of random cases', (PRESSURE, IMPULSE), told)
 
 
 def random_deflagration(source, least=2):
@@ -271,7 +271,7 @@ def random_crossing(source):
     case, figure = random_deflagration(source), source.below(2)
     for r in crossings(case, figure):
         for other in range(max(1, r - 1), r + 3):
-            yield Request(frame_line(changed(case, r=min(LIMITS[4][1], other))), LENGTH, 'at a crossing', (figure,))
+            yield Request(frame_line(changed(case, r=min(LIMITS[4][1], other))), 'at a crossing', (figure,))
 
 
 def random_touch(source):
@@ -284,7 +284,7 @@ def random_touch(source):
         close = changed(case, mass=min(LIMITS[0][1], max(1, mass + source.below(9) - 4)))
         place = least_place(close, figure)
         r = place + source.below(place // 100 + 3) - place // 200 - 1
-        yield Request(frame_line(changed(close, r=min(LIMITS[4][1], max(1, r)))), LENGTH, 'at a touch', (figure,))
+        yield Request(frame_line(changed(close, r=min(LIMITS[4][1], max(1, r)))), 'at a touch', (figure,))
 
 
 def random_meetings(source, count):
@@ -331,9 +331,7 @@ def boundaries():
             r = int(100 * side * step)
             for other in (r, r + 1) if step == 24 else (r - 1, r):
                 yield frame_line(changed(case, r=other))
-    for substance, state, step in ((0, 0, 0), (0, 1, 1), (0, 0, 3), (65, 0, 2), (65, 1, 1), (65, 1, 2), (65, 1, 3)):
-        case = [substance, state, 0, 1 if substance == 0 else 2, 1, 1, 1, 1013, int(19000 * STEPS[step]) + 1, 70]
-        yield from map(frame_line, beside(case, STEPS[step]))
+    yield from map(frame_line, close_cases(STANDARD))
 
 
 def apart(case, figure, r, way):
@@ -351,7 +349,7 @@ def meetings():
     for substance, around, mass in ((17, 2, 40000000), (17, 3, 40000000), (17, 4, 40000000), (40, 4, 40000000), (65, 4, 600000000)):
         for state in (0, 1):
             for figure in (PRESSURE, IMPULSE):
-                case = [substance, state, (state + figure) % 2, around, mass, 700, 770, 0, 1, 60]
+                case = [substance, state, (state + figure) % 2, around, mass, 700, 770, 0, 1, 60, STANDARD]
                 several = [least_place(case, figure)]
                 for r in crossings(case, figure):
                     several += apart(case, figure, r, -1), apart(case, figure, r + 1, 1)
@@ -361,7 +359,7 @@ def meetings():
 def touches():
     """Fronts just too slow and just fast enough for a detonation figure that is the smaller, at the distance where they almost touch."""
     for substance, state, figure in ((40, 0, PRESSURE), (65, 0, PRESSURE), (40, 1, IMPULSE)):
-        case = [substance, state, 0, 4, 1, 700, 770, 0, 1, 60]
+        case = [substance, state, 0, 4, 1, 700, 770, 0, 1, 60, STANDARD]
         mass = touching_mass(case, figure)
         for other in (mass - mass // 1000, mass + mass // 1000):
             heavy = changed(case, mass=other)
@@ -387,7 +385,7 @@ def speeds(source):
         for around in range(1, 5):
             for state in (0, 1):
                 c = 700 if (number + around) % 2 else 1400
-                case = [substance, state, (around + state) % 2, around, 10**(3 + source.below(6)), c, 770, 0, 1, 60]
+                case = [substance, state, (around + state) % 2, around, 10**(3 + source.below(6)), c, 770, 0, 1, 60, STANDARD]
                 rx = Fraction(5 + source.below(120), 100) if (number + state) % 2 else Fraction(6 + source.below(19))
                 yield frame_line(changed(case, r=max(1, centimetres(case, rx))))
 
@@ -406,9 +404,38 @@ def refusals():
         yield frame_line(changed(case, **{**one, **later}))
 
 
+def airs():
+    """Other airs: Rx at the steps in the air of each end, and a gram beside in those next to the standard; propane; both sides of some crossings."""
+    for number, (air, step) in enumerate(zip((5000, 11000) * 4, (0, 1, 2, 3, 0, 1, 2, 3))):
+        case, side = cube_in(air, (0, 3, 5, 8, 1, 4, 8, 2)[number])
+        r = int(100 * side * STEPS[step])
+        yield from (long_line(changed(case, r=other)) for other in ((r, r + 1) if step == 3 else (r - 1, r)))
+    for air, several in ((10129, slice(0, 8)), (10131, slice(10, 14))):
+        yield from map(long_line, list(close_cases(air))[several])
+    yield from (PROPANE + b'2792', PROPANE.lower() + b'2af8')
+    for air, around, state, figure in ((5000, 2, 0, PRESSURE), (11000, 2, 0, IMPULSE), (5000, 3, 1, IMPULSE), (11000, 4, 1, PRESSURE)):
+        case = [17, state, 0, around, 40000000, 700, 770, 0, 1, 60, air]
+        for r in crossings(case, figure):
+            both = apart(case, figure, r, -1), apart(case, figure, r + 1, 1)
+            yield from (long_line(changed(case, r=other)) for other in both if other is not None)
+
+
+def air_refusals():
+    """Other lengths, other characters and limits of the air pressure, and each test with it."""
+    case = changed(Q, substance=47, around=4, air=5000)
+    line = long_line(case)
+    yield from (line, line[:46], line[:45], line[:47], line + b'0', line + b'\r', line[:44] + b'G' + line[45:], line[:47] + b'\xff')
+    yield from (long_line(changed(case, air=air)) for air in WRONG_AIRS)
+    for number, (_, one) in enumerate(ORDER):
+        yield long_line(changed(case, **{**one, 'air': WRONG_AIRS[number % 2]}))
+    yield from (long_line(changed(case, **one)) for _, one in ORDER[-2:])
+    yield from (long_line(changed(Q, r=r, air=air)) for r, air in ((2400, 10131), (2400, 11000), (2400, 10129)))
+
+
 def vectors(directory):
     """A line is kept where its answer is determined: enclosures that are narrower than a hundred-thousandth of the value give it."""
-    lines = dict.fromkeys(itertools.chain(known(), boundaries(), meetings(), refusals(), touches(), speeds(Source(1)), fronts()))
+    groups = known(), boundaries(), meetings(), refusals(), touches(), speeds(Source(1)), fronts(), airs(), air_refusals()
+    lines = dict.fromkeys(itertools.chain(*groups))
     kept = [(line, word.encode()) for line, word in ((line, determined(line)) for line in lines) if word is not None]
     with open(os.path.join(directory, 'stdin'), 'wb') as several, open(os.path.join(directory, 'stdout'), 'wb') as records:
         for number, (line, word) in enumerate(kept, start=1):

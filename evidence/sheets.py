@@ -1,5 +1,6 @@
 #!/usr/bin/env python3
-"""A separate model of the study sheet and its totals (requests 7 and 8), a plain list with holes, written from the papers; its bytes from docs/sheets.md.
+"""A separate model of the study sheet and its totals (requests 7 and 8), a plain list with holes, with the air of request 11, written from the papers;
+its bytes from docs/sheets.md.
 
   sheets.py lines FILE                      the record of each operation of FILE, from the empty sheet on
   sheets.py vectors DIRECTORY               the files stdin and stdout of the program known_sheets, the same at every run
@@ -9,9 +10,10 @@
 An operation is a line: A or F and the characters of a case, which is added from the line (A) or from the frame that it spells (F); W and a
 place, which is withdrawn; C, which closes the gaps; H and a place, whose case is read; T, the totals; E, an empty sheet again. A record is the
 line's number and two answers, of the sheet by value and of the lent one: @ and the place of the added case; W and the digits of the withdrawn
-one; C and the number of cases; H and the digits of the case that is held; E; or R and the refusal's number. The lent W and C stand without what
-follows, and - stands where there is no frame to add. T asks for the totals: the number of cases, @, the place, : and the greatest upper end. That
-is open between two numbers, which `lines` prints; where two follow the T, = stands for an end between them, ! for another.
+one; C and the number of cases; H and the digits of the case that is held; E; or R and the refusal's number. A case has 44 digits, or 48 where its
+air is not the standard one. The lent W and C stand without what follows, and - stands where there is no frame to add. T asks for the totals: the
+number of cases, @, the place, : and the greatest upper end. That is open between two numbers, which `lines` prints; where two follow the T, = stands
+for an end between them, ! for another.
 `against` prints a line for every fault, and last the counts; its exit status is 0 where there is no fault. FILE may be - for standard input.
 """
 import collections
@@ -24,17 +26,23 @@ import tempfile
 
 from mpmath import mp
 
-from reference import (CUBES, ORDER, P0, PROPANE, Q, SPOILED, Source, changed, contents, decide, decide_frame, fields, frame_line, greatest_upper,
-                       lines_of, random_case, random_line, reduced, seeded)
+from reference import (AIR, CUBES, FRAMES, ORDER, PROPANE, Q, STANDARD, Source, air_pressure, changed, contents, cube_in, decide, decide_frame, fields,
+                       frame_line, greatest_upper, lines_of, long_line, random_air, random_case, random_fault, random_line, reduced, seeded, written)
 from rings import spells
 
-PLACES, FRAME = 64, 22
+PLACES = 64
+FRAME, WITH_AIR = FRAMES
 
 
 # The rules of the requests. A sheet is a list: place k is its element k - 1, None is a gap, and the last element is none. An upper end that is
 # not known is None.
 
 Held = collections.namedtuple('Held', 'frame upper', defaults=(None,))
+
+
+def kept(frame):
+    """A frame as it is read again: standard air is left out."""
+    return frame[:FRAME] if fields(frame)[AIR] == STANDARD else frame
 
 
 def holds(sheet, place):
@@ -81,14 +89,14 @@ def refusal_of_line(line):
 @functools.lru_cache(1 << 16)
 def refusal_of_frame(frame):
     """The first of tests 1 to 7 that refuses a frame, else 0; a frame has no test 2."""
-    verdict = decide_frame(frame) if len(frame) == FRAME else 1
+    verdict = decide_frame(frame)
     return verdict if isinstance(verdict, int) else 0
 
 
 @functools.lru_cache(1 << 16)
 def exact(frame):
-    """The overpressure of an accepted frame."""
-    return reduced(*decide_frame(frame))[0] * P0
+    """The overpressure of an accepted frame, in its own air."""
+    return reduced(*decide_frame(frame))[0] * air_pressure(fields(frame))
 
 
 def bounds(frame):
@@ -120,7 +128,8 @@ def added(sheet, kind, text):
     if not spells(text):
         return b'- -' if kind == b'F' else b'R%d -' % refusal_of_line(text), sheet
     frame = bytes.fromhex(text.decode())
-    number, after = add(sheet, refusal_of_frame(frame), Held(frame))
+    number = refusal_of_frame(frame)
+    number, after = add(sheet, number, None if number else Held(kept(frame)))
     answer = b'R%d' % number if number else b'@%d' % len(after)
     return answer + b' ' + answer, after
 
@@ -169,47 +178,68 @@ def show(name):
     return 0
 
 
-# The lent sheet. Its bytes, from its start: 32 for a place, a tag, a frame, an upper end and 5 zeros, all zero for a gap. Some memory lies before it
-# and past it.
+# The lent sheet. Its bytes, from its start: 32 for a place, a tag, the first 22 of a frame, an upper end, the air pressure, 0 for the standard one, and
+# 3 zeros, all zero for a gap. Some memory lies before it and past it.
 
 BEFORE, SHEET, PAST, CONTENT, END = 32, 2048, 256, 32, 4
 AREA = 64
 MARK = b'\x5f'  # each byte of an area before a call
 
 # A call of one of the first four entries, or the memory (S) in which the calls after it have their sheet. The lengths are those that are told.
-Call = collections.namedtuple('Call', 'kind memory sheet place frame length area', defaults=(b'', SHEET, 0, b'', FRAME, FRAME))
+Call = collections.namedtuple('Call', 'kind memory sheet place frame length area', defaults=(b'', SHEET, 0, b'', 0, WITH_AIR))
 # What a call gives: its number, the place told, None for none, the bytes of the sheet's memory and of the area, whether the frame has its own, and
 # what the call of the totals after it gives: its number and the three that are told.
 Outcome = collections.namedtuple('Outcome', 'number place memory area frame totals')
 
 
+def held_in(place):
+    """The case of a place's bytes, whatever they are; without an air pressure it has the standard one."""
+    end = 1 + FRAME
+    frame, air = place[1:end], place[end + END:end + END + 2]
+    return Held(kept(frame + air) if any(air) else frame, int.from_bytes(place[end:end + END], 'big'))
+
+
+def place_of(held):
+    """The bytes of a place."""
+    if held is None:
+        return bytes(CONTENT)
+    upper = held.upper.to_bytes(END, 'big')
+    return (b'\x01' + held.frame[:FRAME] + upper + held.frame[FRAME:]).ljust(CONTENT, b'\x00')
+
+
 def listed(memory):
     """The list that any bytes stand for: a tag of 0 is a gap, any other a case."""
-    starts, end = range(BEFORE, BEFORE + SHEET, CONTENT), 1 + FRAME
-    held = lambda place: Held(place[1:end], int.from_bytes(place[end:end + END], 'big'))
-    return trimmed([held(memory[at:at + CONTENT]) if memory[at] else None for at in starts])
+    starts = range(BEFORE, BEFORE + SHEET, CONTENT)
+    return trimmed([held_in(memory[at:at + CONTENT]) if memory[at] else None for at in starts])
 
 
 def laid(memory, sheet):
     """The memory with the bytes of a list in the place of its sheet's."""
-    place = lambda held: b'' if held is None else b'\x01' + held.frame + held.upper.to_bytes(END, 'big')
-    several = [place(held).ljust(CONTENT, b'\x00') for held in sheet]
+    several = map(place_of, sheet)
     return memory[:BEFORE] + b''.join(several).ljust(SHEET, b'\x00') + memory[BEFORE + SHEET:]
+
+
+def given(call):
+    """The frame of a call, of the length that is told."""
+    return call.frame[:call.length]
 
 
 def applied(sheet, call, end=None):
     """The number that a call returns, the list after, and the case that it reads; None for none. The end is that of a case that is added."""
     short = 8 if call.sheet < SHEET else 0
     if call.kind == 'A':
-        return (*add(sheet, refusal_of_frame(call.frame[:call.length]) or short, Held(call.frame, end)), None)
+        refusal = refusal_of_frame(given(call))
+        return (*add(sheet, refusal or short, None if refusal else Held(kept(given(call)), end)), None)
     if short:
         return short, sheet, None
     if call.kind == 'W':
         return (*withdraw(sheet, call.place), None)
     if call.kind == 'C':
         return 0, close(sheet), None
-    number = 18 if not holds(sheet, call.place) else 8 if call.area < FRAME else 0
-    return number, sheet, None if number else sheet[call.place - 1].frame
+    if not holds(sheet, call.place):
+        return 18, sheet, None
+    case = sheet[call.place - 1].frame
+    return (8, sheet, None) if call.area < len(case) else (0, sheet, case)
 
 
 def due(sheet, memory, call, end):
@@ -296,7 +326,7 @@ def end_faults(call, number, end):
     """What is wrong with the upper end of a case that is added, by its exact value."""
     if call.kind != 'A' or number != 0:
         return []
-    least, most = bounds(call.frame)
+    least, most = bounds(given(call))
     return [] if end is not None and least <= end <= most else ['the upper end has to be from %d to %d, %s stands' % (least, most, end)]
 
 
@@ -358,9 +388,9 @@ def check(calls, answers):
 
 # Calls to try.
 
-LENGTHS = (0, 1, 10, 21, 23, 24, 43, 44, 45, 64)
+LENGTHS = (0, 1, 10, 21, 22, 23, 23, 24, 25, 43, 44, 45, 48, 64)
 SHORT, LONG = (0, 1, 31, 32, 2016, 2047), (2049, 2079, 2080, SHEET + PAST)
-AREAS = (0, 1, 21, 23, 24, 64)
+AREAS = (0, 1, 21, 22, 23, 25, 64)
 # what is asked for, in lots: mostly adding, mostly withdrawing, both in turn, gaps made and closed
 PHASES = ('A' * 60 + 'WHC', 'A' * 12 + 'WH', 'W' * 20 + 'AH', 'W' * 50 + 'H', 'AWH', 'AAWWWHHC', 'WWWWWWWC')
 # bytes for a sheet that no call has written
@@ -386,7 +416,7 @@ def random_place(source, sheet):
 
 def accepted_line(source):
     while True:
-        line = frame_line(random_case(source))
+        line = written(source, random_case(source))
         if refusal_of_line(line) == 0:
             return line
 
@@ -395,15 +425,16 @@ def random_characters(source, sheet):
     """The line of a case: mostly accepted; else one that the sheet holds already, a spoiled one, any bytes, Rx at 24 or a cm past it, or any line."""
     kind = source.below(100)
     if kind < 5 and sheet:
-        return digits(source.choice(close(sheet)).frame)
+        return written(source, fields(source.choice(close(sheet)).frame))
     if kind < 14:
-        return frame_line(changed(random_case(source), **source.choice(SPOILED)[1]))
+        return frame_line(changed(random_case(source), **random_fault(source)))
     if kind < 16:
         return frame_line(changed(random_case(source), substance=source.choice((0, 25, 47)), heat=0))
     if kind < 17:
-        return digits(random_bytes(source, FRAME))
+        return digits(random_bytes(source, FRAMES[source.airs and source.below(2)]))
     if kind < 20:
-        case, side = source.choice(CUBES)
+        number = source.below(len(CUBES))
+        case, side = cube_in(random_air(source), number) if source.airs else CUBES[number]
         return frame_line(changed(case, r=2400 * side + source.below(2)))
     return random_line(source) if kind < 35 else accepted_line(source)
 
@@ -412,9 +443,9 @@ def random_add(source, sheet, told):
     """A line that spells no frame becomes a frame of another length, which begins as an accepted one does."""
     line = random_characters(source, sheet)
     if spells(line):
-        return Call('A', sheet=told, frame=bytes.fromhex(line.decode()))
-    frame = bytes.fromhex(accepted_line(source).decode()) + random_bytes(source, AREA - FRAME)
-    return Call('A', sheet=told, frame=frame, length=source.choice(LENGTHS))
+        return Call('A', sheet=told, frame=bytes.fromhex(line.decode()), length=len(line) // 2)
+    frame = bytes.fromhex(accepted_line(source).decode()) + random_bytes(source, AREA)
+    return Call('A', sheet=told, frame=frame[:AREA], length=source.choice(LENGTHS))
 
 
 def random_call(source, sheet, phase):
@@ -422,7 +453,7 @@ def random_call(source, sheet, phase):
     kind, told = source.choice(phase), source.choice((source.choice(SHORT), *[source.choice(LONG)] * 2, *[SHEET] * 13))
     if kind == 'A':
         return random_add(source, sheet, told)
-    place, area = random_place(source, sheet), source.choice(AREAS) if source.chance(40) else FRAME
+    place, area = random_place(source, sheet), source.choice(AREAS) if source.chance(40) else WITH_AIR
     return Call(kind, sheet=told, place=place, area=area)
 
 
@@ -439,6 +470,12 @@ def random_calls(source, memory, count, phases):
         yield call
 
 
+def random_held(source):
+    """A frame of any bytes, half of them with an air pressure, permitted or not."""
+    frame = random_bytes(source, FRAME)
+    return kept(frame + source.choice((1, 255, random_air(source), random_air(source), 65535)).to_bytes(2, 'big')) if source.chance(50) else frame
+
+
 def random_memory(source):
     """Bytes of anything, or a sheet with other tags and with bytes where zeros belong, or few bytes that are not zero."""
     memory = bytearray(random_bytes(source, BEFORE + SHEET + PAST))
@@ -449,12 +486,15 @@ def random_memory(source):
     elif kind > 1:
         held, last = source.choice((50, 90, 100)), source.choice((source.below(PLACES), PLACES))
         ends = [source.below(2**32) >> source.below(33) for _ in range(3)]
-        sheet = [Held(random_bytes(source, FRAME), source.choice(ends)) if source.chance(held) else None for _ in range(last)]
+        sheet = [Held(random_held(source), source.choice(ends)) if source.chance(held) else None for _ in range(last)]
         memory[:] = laid(memory, trimmed(sheet if kind == 2 else []))
         for _ in range(1 + source.below(40)):
             at = BEFORE + source.below(SHEET)
-            # every second one is a tag
+            # every second one is a tag, and one in five is of an air pressure, which may be the standard one written out
             memory[at - at % CONTENT if source.chance(50) else at] = source.choice(SPOTS)
+            if source.chance(20):
+                at += 27 - at % CONTENT
+                memory[at:at + 2] = source.choice((0, 10130, 10130, 5000, source.below(65536))).to_bytes(2, 'big')
     return bytes(memory)
 
 
@@ -482,12 +522,19 @@ CASE = fields(bytes.fromhex(PROPANE.decode()))
 BARE = changed(Q, substance=47, around=4)  # without its heat it is refused
 
 
+def propane_at(metres, air):
+    """The line of the propane example, with its air pressure written out where one is given."""
+    case = changed(CASE, r=100 * int(metres))
+    return long_line(changed(case, air=int(air))) if air else frame_line(case)
+
+
 def in_full(words):
-    """Operations in short: the number after A and F is the distance in metres of the propane example, the one after W and H a place."""
+    """Operations in short: the number after A and F is the distance in metres of the propane example, with an air pressure behind a stroke; the one
+    after W and H is a place."""
     for word in words.split():
-        kind, number = word[0].encode(), word[1:]
+        kind, (number, _, air) = word[0].encode(), word[1:].partition('/')
         if kind in (b'A', b'F'):
-            yield kind + b' ' + frame_line(changed(CASE, r=100 * int(number)))
+            yield kind + b' ' + propane_at(number, air)
         else:
             yield kind + b' ' + number.encode() if number else kind
 
@@ -518,6 +565,31 @@ STORIES = (
     # an overtaking and a withdrawal of it by turns, with a gap ahead
     'E A900 A800 W1 A700 W3 A600 A500 W3 W4 A700 C W1 W2 A800 A600 W3 W1 W2',
 )
+
+
+AIR_STORIES = (
+    # one case in several airs, from a line and from a frame, read back in 44 digits or in 48; gaps are closed and the airs go with their cases
+    'E A100/5000 F100 A100/10130 F100/11000 H1 H2 H3 H4 W2 H1 H3 H4 C H1 H2 H3 W1 H2 H3 C H1 H2 W1 W2 H1 A100/5001 H1',
+    # the greatest is found in each case's own air: it is shown, withdrawn, and shown again
+    'E A100/5000 A90/5000 A110/11000 A100/10999 W4 W3 A95/10129 F95/10131 W4 W3 W1 C H1 A80/11000 H2 W2',
+    # beyond in one air and not in another; air pressures that are not permitted change nothing
+    'E A3800/11000 A3800/10130 F4800 F4800/5000 A100/4999 F100/11001 A100/0 F100/65535 H1 H2 H3 W2 A4900/5000 A3700/11000 H2 W1 W2',
+)
+
+
+def full_of_airs():
+    """A full sheet in airs by turns, refused before 17 by its air pressure, and closed with gaps among them."""
+    yield b'E'
+    for place in range(PLACES):
+        yield from in_full('%s%d%s' % ('AF'[place % 2], 100 + place, ('', '/5000', '/11000', '/10130')[place % 4]))
+    yield from in_full('A100/5000 F100/4999 H1 H2 H63 H64 W2 W63 W64 A100/7000 H63 C H2 H61 H62 A100/8000 A100/9000 H63 H64 W64 A100/10130 H64')
+
+
+def air_lengths():
+    """Other lengths than 44 and 48, and other characters in the air pressure."""
+    line = propane_at(100, 5000)
+    for other in (line[:46], line[:45], line[:47], line + b'0', line[:44] + b'G' + line[45:]):
+        yield from (kind + b' ' + other for kind in (b'A', b'F'))
 
 
 def either(number, line):
@@ -623,7 +695,8 @@ def totalled(operations):
 def vectors(directory):
     source = Source(1)
     stories = itertools.chain.from_iterable(map(in_full, STORIES))
-    operations = [*totalled([*stories, *full(source), *emptying(source), *refusals(source), *no_places(), *asked(), *mixed(source, 200)])]
+    airs = [*itertools.chain.from_iterable(map(in_full, AIR_STORIES)), *air_lengths(), *full_of_airs()]
+    operations = [*totalled([*stories, *full(source), *emptying(source), *refusals(source), *no_places(), *asked(), *mixed(source, 200), *airs])]
     for name, lines in (('stdin', (operation + b'\n' for operation in operations)), ('stdout', records(operations))):
         with open(os.path.join(directory, name), 'wb') as file:
             file.writelines(lines)

@@ -1,5 +1,5 @@
 /* Frames written and cases spelled through the three entries for C. A line asks for one: the way (1 from fields, 2 a frame spelled, 3 a line
-   spelled), the room of the area, and ten numbers, the digits of a frame, or a line as it stands; a single space between any two. Prints the
+   spelled), the room of the area, and eleven numbers, the digits of a frame, or a line as it stands; a single space between any two. Prints the
    line's number, what was returned and, if the area is not as it was, its bytes up to the last that differs: after way 1 in upper-case digits,
    else as they stand. A line that asks for nothing ends it with status 2. */
 #define _POSIX_C_SOURCE 200809L
@@ -10,8 +10,9 @@
 #include <stdlib.h>
 #include <string.h>
 
-/* The mark is no digit, so a spelling shows whole. The longest frame has two bytes too many, and a number has at most 19 places. */
-enum { FIELDS = 1, FRAME = 2, LINE = 3, AREA = 52, MARK = 0x5F, LONGEST = 24, NUMBERS = 10, PLACES = 19 };
+/* The mark is no digit, so a spelling shows whole. The longest frame has two bytes more than one with its air pressure, and a number has at most 19
+   places. */
+enum { FIELDS = 1, FRAME = 2, LINE = 3, AREA = 52, MARK = 0x5F, LONGEST = 26, NUMBERS = 11, PLACES = 19 };
 
 /* Above every number of 19 digits. */
 #define NONE UINT64_MAX
@@ -27,7 +28,7 @@ static uint64_t number_at(const char **text, char next)
     return n;
 }
 
-/* Whether a text is ten numbers and nothing else. */
+/* Whether a text is eleven numbers and nothing else. */
 static int is_fields(const char *text, size_t length, uint64_t n[NUMBERS])
 {
     const char *rest = text;
@@ -37,7 +38,7 @@ static int is_fields(const char *text, size_t length, uint64_t n[NUMBERS])
     return rest == text + length + 1;
 }
 
-/* Whether a text is the digits of up to 24 bytes. */
+/* Whether a text is the digits of up to 26 bytes. */
 static int is_frame(const char *text, size_t length, uint8_t frame[LONGEST])
 {
     static const char digits[] = "0123456789abcdef0123456789ABCDEF";
@@ -76,7 +77,7 @@ static int answer(const char *text, size_t length)
     length -= (size_t)(rest - text);
     memset(area, MARK, sizeof area);
     if (way == FIELDS && is_fields(rest, length, n))
-        number = yakepuhi_frame_from_fields(n[0], n[1], n[2], n[3], n[4], n[5], n[6], n[7], n[8], n[9], area, (size_t)room);
+        number = yakepuhi_frame_from_fields(n[0], n[1], n[2], n[3], n[4], n[5], n[6], n[7], n[8], n[9], n[10], area, (size_t)room);
     else if (way == FRAME && is_frame(rest, length, frame))
         number = yakepuhi_spell_frame(frame, length / 2, area, (size_t)room);
     else if (way == LINE)

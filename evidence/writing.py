@@ -1,5 +1,6 @@
 #!/usr/bin/env python3
-"""A separate calculation of written frames and of the one spelling of a case (request 9), in whole numbers and from the rules alone.
+"""A separate calculation of written frames and of the one spelling of a case (request 9), with the air of request 11, in whole numbers and from the
+rules alone.
 
   writing.py lines FILE                      the record of each request of FILE
   writing.py vectors DIRECTORY               the files stdin and stdout of the program known_writings, the same at every run
@@ -7,7 +8,7 @@
                                              is spelled again, and every accepted case is compared with a partner
 
 A request is a line of three parts with a space between: the way (1 from fields, 2 a frame spelled, 3 a line spelled), the room of the area,
-and for way 1 ten decimal numbers with a space between, each below 10^19, for way 2 the digits of up to 24 bytes, for way 3 any line.
+and for way 1 eleven decimal numbers with a space between, each below 10^19, for way 2 the digits of up to 26 bytes, for way 3 any line.
 A record is the request's number, what was returned and, if the area is not as it was, its bytes up to the last that differs: after way 1 in
 upper-case digits, else as they stand. Before each call all 52 bytes of the area are 5F.
 `against` shows the first faults and then the counts; its exit status is 0 if nothing was at fault. For FILE, - is standard input.
@@ -19,13 +20,12 @@ import subprocess
 import sys
 import tempfile
 
-from reference import (HEX, LIMITS, ORDER, PROPANE, Q, SIZES, SPOILED, SUBSTANCES, Source, changed, contents, decide_case, fields, frame_line,
-                       lines_of, random_case, seeded)
+from reference import (AIR, AIR_SPOILED, AIRS, FRAMES, HEX, LIMITS, ORDER, PROPANE, Q, SIZES, STANDARD, SUBSTANCES, WRONG_AIRS, Source, changed, contents,
+                       decide_case, fields, frame_line, lines_of, long_line, random_case, random_fault, seeded, written)
 
-FIELDS, FRAME, LINE = 1, 2, 3
-DIGITS, AREA, MARK = 44, 52, b'\x5f'
-ROOM = {FIELDS: 22, FRAME: 44, LINE: 44}
-HEAT = 7  # its place among the ten numbers
+FIELDS, FRAME, LINE = WAYS = 1, 2, 3
+AREA, MARK = 52, b'\x5f'
+HEAT = 7  # its place among the eleven numbers
 MOST = 10**19 - 1  # the greatest number of a request
 VALUES = ((0, 75), (0, 1), (0, 1), (1, 4)) + LIMITS
 # in J/g; None where the table has a dash
@@ -45,8 +45,8 @@ def effective(case):
 
 
 def decided(way, text):
-    """The first of tests 1 to 6 that refuses, else 0; and the ten numbers, where there are ten. A frame too is given by its digits."""
-    if way != FIELDS and len(text) != DIGITS:
+    """The first of tests 1 to 6 that refuses, else 0; and the eleven numbers, where there are so many. A frame too is given by its digits."""
+    if way != FIELDS and len(text) not in (2 * size for size in FRAMES):
         return 1, None
     if way == LINE and text.translate(None, HEX):
         return 2, None
@@ -57,13 +57,13 @@ def decided(way, text):
 def record(way, room, text):
     """The record that is due, but for the request's number."""
     number, case = decided(way, text)
-    number = number or (8 if room < ROOM[way] else 0)
     if number:
         return b'%d' % number
-    if way != FIELDS:
-        return b'0 ' + frame_line(spelled(case))
+    frame = bytes.fromhex(frame_line(case).decode())
+    if room < (len(frame) if way == FIELDS else 2 * len(frame)):
+        return b'8'
     # bytes like the mark do not show at the end of a frame
-    return b'0 ' + bytes.fromhex(frame_line(case).decode()).rstrip(MARK).hex().upper().encode()
+    return b'0 ' + (frame.rstrip(MARK).hex().upper().encode() if way == FIELDS else frame_line(spelled(case)))
 
 
 def show(name):
@@ -109,8 +109,9 @@ class Tally:
             due = record(*asked)
             self.verdicts[asked[0], int(due.partition(b' ')[0])] += 1
             if self.hold(asked, due, stands, stands == due) and due[:1] == b'0':
+                case = decided(asked[0], asked[2])[1]
                 # the last byte of a frame may be the mark's
-                accepted.append((decided(asked[0], asked[2])[1], (stands[2:] + b'5F')[:DIGITS]))
+                accepted.append((case, (stands[2:] + b'5F')[:len(frame_line(case))]))
         return accepted
 
     def spell_again(self, accepted):
@@ -127,7 +128,7 @@ class Tally:
     def pair(self, source, accepted):
         """Each case with a partner: one spelling exactly where they agree with the effective heat."""
         partners = [partner(source, case) for case, _ in accepted]
-        requests = [(source.choice((FRAME, LINE)), AREA, mixed(frame_line(case), source.below(2**DIGITS))) for case in partners]
+        requests = [(source.choice((FRAME, LINE)), AREA, mixed(written(source, case), source.below(2**48))) for case in partners]
         for (case, _), own, other, asked, stands in zip(accepted, self.spell_again(accepted), partners, requests, self.records(requests)):
             agree = effective(case) == effective(other)
             self.pairs += 1
@@ -147,14 +148,15 @@ class Tally:
 CASE = fields(bytes.fromhex(PROPANE.decode()))
 BARE = changed(CASE, substance=47)  # refused without its heat
 ROOMS = 0, 21, 22, 23, 43, 44, 45, 52
+AIR_ROOMS = 22, 23, 24, 25, 44, 46, 47, 48, 49
 # the tests of each way in their order
 TESTS = {FIELDS: (3, 12, 13, 14, 5, 6, 8), FRAME: (1, 3, 12, 13, 14, 5, 6, 8), LINE: (1, 2, 3, 12, 13, 14, 5, 6, 8)}
 # added to the table's heat; the last two keep its low two bytes
 BESIDE = 0, 0, 0, 1, -1, 256, -256, 65536, -65536
 
 
-def text_of(way, case):
-    return b' '.join(b'%d' % n for n in case) if way == FIELDS else frame_line(case)
+def text_of(way, case, line_of=frame_line):
+    return b' '.join(b'%d' % n for n in case) if way == FIELDS else line_of(case)
 
 
 def with_number(case, at, n):
@@ -166,15 +168,20 @@ def mixed(line, bits):
     return b''.join(line[at:at + 1].lower() if bits >> at & 1 else line[at:at + 1] for at in range(len(line)))
 
 
-def spoiled(way, numbers):
+def spoiled(way, numbers, air=STANDARD):
     """A request that each of these tests refuses. A wrong length is one too much, so that every field can still be read."""
-    case = BARE
+    case = changed(BARE, air=air)
     for number, new in ORDER[:-1]:
         case = changed(case, **new) if number in numbers else case
     text = text_of(way, case)
     text = text[:34] + b'G' + text[35:] if 2 in numbers else text
     text += (b'00' if way == FRAME else b'0') if 1 in numbers else b''
-    return way, ROOM[way] - 1 if 8 in numbers else AREA, text
+    return way, length_of(way, case) - 1 if 8 in numbers else AREA, text
+
+
+def length_of(way, case):
+    """How many bytes or characters are written of a case."""
+    return len(frame_line(case)) // (2 if way == FIELDS else 1)
 
 
 def tried_case(source):
@@ -184,14 +191,14 @@ def tried_case(source):
         table = TABLE_HEAT[case[0] if source.chance(75) else source.below(76)]
         case = changed(case, heat=max(0, (table or 44000) + source.choice(BESIDE)))
     while source.chance(12):
-        case = changed(case, **source.choice(SPOILED)[1])
+        case = changed(case, **random_fault(source))
     return changed(case, substance=source.choice((0, 25, 47)), heat=0) if source.chance(2) else case
 
 
 def widened(source, case):
     """Some numbers raised so far that a cut to their field's bytes, or to 32 bits, would undo it; or set to anything."""
     while source.chance(12):
-        at = source.below(10)
+        at = source.below(len(case) if source.airs else AIR)
         low = case[at] % 2**32
         past = low + 256**SIZES[at], low + 2**32 * (1 + source.below(2**31)), source.corner(0, MOST)
         case = with_number(case, at, source.choice(past))
@@ -202,23 +209,24 @@ def random_text(source, way, line):
     """The line in any letters; one in ten has another length or, if it stays a line, a wrong character."""
     kind = source.below(100)
     if kind < 3:
-        line = line[:2 * source.below(22) + (source.below(2) if way == LINE else 0)]
+        line = line[:2 * source.below(len(line) // 2) + (source.below(2) if way == LINE else 0)]
     elif kind < 6:
-        at = source.choice((DIGITS, 2 * source.below(22)))
+        at = source.choice((len(line), 2 * source.below(len(line) // 2)))
         line = line[:at] + source.choice((b'0', b'00', b'\r') if way == LINE else (b'00', b'0000')) + line[at:]
     elif kind < 10 and way == LINE:
-        at = source.below(DIGITS)
+        at = source.below(len(line))
         line = line[:at] + source.choice((b'/', b':', b'@', b'G', b'`', b'g', b' ', b'\r', b'\x00', b'\xb0', b'\xc1', b'\xff')) + line[at + 1:]
-    return mixed(line, source.choice((0, -1, source.below(2**DIGITS))))
+    return mixed(line, source.choice((0, -1, source.below(2**48 if source.airs else 2**44))))
 
 
 def random_request(source):
     way = source.choice((FIELDS, FRAME, LINE))
     if source.chance(6):
-        return spoiled(way, [source.choice(TESTS[way]) for _ in range(3)])
-    room = source.choice(ROOMS + (source.below(AREA + 1),)) if source.chance(15) else AREA
+        return spoiled(way, [source.choice(TESTS[way]) for _ in range(3)], source.choice(AIRS) if source.airs else STANDARD)
+    several = ROOMS + AIR_ROOMS if source.airs else ROOMS
+    room = source.choice(several + (source.below(AREA + 1),)) if source.chance(15) else AREA
     case = tried_case(source)
-    return way, room, text_of(way, widened(source, case)) if way == FIELDS else random_text(source, way, frame_line(case))
+    return way, room, text_of(way, widened(source, case)) if way == FIELDS else random_text(source, way, written(source, case))
 
 
 def partner(source, case):
@@ -228,7 +236,7 @@ def partner(source, case):
         return changed(case, heat=table - case[HEAT])
     other = case
     while source.chance(60) or decide_case(other):
-        at = source.below(10)
+        at = source.below(len(case))
         n = source.choice((case[at] - 1, case[at] + 1, source.corner(*VALUES[at])))
         other = with_number(case, at, min(VALUES[at][1], max(VALUES[at][0], n)))
     return other
@@ -247,7 +255,7 @@ def against(archive, count, seed):
 
 # both ends of each class, beside the dash, the greatest table heat and the least
 TABLED = 1, 10, 11, 24, 26, 27, 28, 57, 58, 75, 3, 55
-LETTERS = [0x1F, 0, 1, 4, 0xFEDCBA9, 0xBCDE, 0xABCD, 0xFEDC, 0xEFABC, 0x1EF]
+LETTERS = [0x1F, 0, 1, 4, 0xFEDCBA9, 0xBCDE, 0xABCD, 0xFEDC, 0xEFABC, 0x1EF, STANDARD]
 
 
 def by_ways(ways, *cases):
@@ -276,13 +284,19 @@ def damaged():
 
 def limits():
     """Each number at its ends and past them, as great as its bytes allow, and so great that a cut to them, or to 32 bits, would make it good."""
-    for at, ((low, high), size, own) in enumerate(zip(VALUES, SIZES, CASE)):
-        for n in sorted({max(0, low - 1), low, high, high + 1}):
-            yield from by_ways((FIELDS, FRAME), with_number(CASE, at, n))
-        yield from by_ways((FRAME,), with_number(CASE, at, 256**size - 1))
-        for n in (256**size + own, 2**32 + own, MOST - MOST % 2**32 + own):
-            yield from by_ways((FIELDS,), with_number(CASE, at, n))
-    yield from by_ways((FIELDS,), with_number(CASE, 9, MOST), [MOST] * 10, [high for _, high in VALUES])
+    for at in range(AIR):
+        yield from limits_at(at)
+    yield from by_ways((FIELDS,), with_number(CASE, 9, MOST), [MOST] * 10 + [STANDARD], [high for _, high in VALUES[:AIR]] + [STANDARD])
+
+
+def limits_at(at):
+    """One number of the eleven."""
+    (low, high), size, own = VALUES[at], SIZES[at], CASE[at]
+    for n in sorted({max(0, low - 1), low, high, high + 1}):
+        yield from by_ways((FIELDS, FRAME), with_number(CASE, at, n))
+    yield from by_ways((FRAME,), with_number(CASE, at, 256**size - 1))
+    for n in (256**size + own, 2**32 + own, MOST - MOST % 2**32 + own):
+        yield from by_ways((FIELDS,), with_number(CASE, at, n))
 
 
 def heats():
@@ -311,6 +325,40 @@ def order():
             yield asked
 
 
+def airs():
+    """The air pressure at its ends and past them; standard air written out, and others beside it; a table's heat and a frame that ends in the mark."""
+    yield from limits_at(AIR)
+    for number, air in enumerate((5001, 10129, STANDARD, 10131, 0x145F, 0x2AAF)):
+        for way in WAYS if air == STANDARD else (WAYS[number % 2], LINE):
+            text = text_of(way, changed(CASE, air=air), long_line)
+            yield way, AREA, mixed(text, (0, -1, 0x955555555555)[number % 3])
+    yield from ((way, AREA, text_of(way, changed(LETTERS, air=0x2AAA), long_line)) for way in WAYS)
+    yield LINE, AREA, mixed(long_line(changed(LETTERS, air=0x1FAB)), 0xAAAAAAAAAAAA)
+    for number, (substance, air) in enumerate(((17, STANDARD), (17, 5000), (3, 11000), (47, 11000))):
+        case = changed(CASE, substance=substance, heat=TABLE_HEAT[substance] or 46200, air=air)
+        yield (FRAME, LINE)[number % 2], AREA, long_line(case)
+        yield FIELDS, AREA, text_of(FIELDS, case)
+
+
+def air_refusals():
+    """Other lengths and characters; rooms for both lengths that are written; an air pressure that is not permitted with each test."""
+    line = long_line(changed(CASE, air=11000))
+    for other in (line[:45], line[:46], line[:47], line + b'0', line + b'\r', line[:44] + b'G' + line[45:], line[:47] + b'g'):
+        yield LINE, AREA, other
+    yield from ((FRAME, AREA, other) for other in (line[:46], long_line(CASE)[:46]))
+    for way in WAYS:
+        for air in (11000, STANDARD):
+            case = changed(CASE, air=air)
+            short = length_of(way, case)
+            yield from ((way, room, text_of(way, case, long_line)) for room in (short - 1, short))
+        yield way, length_of(way, CASE), text_of(way, changed(CASE, air=5000))
+        for number, (_, new) in enumerate(ORDER[:-1]):
+            if (number + way) % 2:
+                yield way, AREA, text_of(way, changed(BARE, **{**new, 'air': WRONG_AIRS[number % 4]}))
+        yield spoiled(way, (6, 8), 5000)
+        yield way, 0, text_of(way, changed(BARE, **AIR_SPOILED[way % 2][1]))
+
+
 def assert_laws(requests):
     """Of this calculation too: spelled twice is spelled once, and two cases have one spelling exactly where they agree with the effective heat."""
     accepted = [(record(*asked)[2:], decided(asked[0], asked[2])[1]) for asked in requests if asked[0] != FIELDS and record(*asked)[:1] == b'0']
@@ -321,9 +369,9 @@ def assert_laws(requests):
 
 def vectors(directory):
     source = Source(1)
-    rooms = ((way, room, text_of(way, CASE)) for way in ROOM for room in ROOMS)
+    rooms = ((way, room, text_of(way, CASE)) for way in WAYS for room in ROOMS)
     several = (random_request(source) for _ in range(18))
-    requests = list(dict.fromkeys(itertools.chain(known(), damaged(), limits(), heats(), rooms, order(), several)))
+    requests = list(dict.fromkeys(itertools.chain(known(), damaged(), limits(), heats(), rooms, order(), several, airs(), air_refusals())))
     assert_laws(requests)
     with open(os.path.join(directory, 'stdin'), 'wb') as asked, open(os.path.join(directory, 'stdout'), 'wb') as records:
         for number, each in enumerate(requests, start=1):

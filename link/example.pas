@@ -1,6 +1,6 @@
 { Calls Yakepuhi from Free Pascal: a case as a line and as a frame's bytes, its overpressure and its impulse alone, its rules,
-  its rings, its line in the old form, its frame from ten numbers, its spelling, what every refusal but a sheet's is called, each printed in
-  readable form. }
+  its rings, its line in the old form, its frame from eleven numbers, its spelling, the same in mountain air, what every refusal but a sheet's is
+  called, each printed in readable form. }
 program example;
 
 {$mode objfpc}{$H+}
@@ -9,18 +9,30 @@ program example;
 
 const
   AnswerBytes = 77;
+  FrameBytes = 22;
   LineCharacters = 44;
+  LongFrameBytes = 24;
+  LongLineCharacters = 48;
   OldCharacters = 116;
   Mark = $EE;
-  GreatestThreshold = 1823400;
-  { by number; none is numbered 4 }
-  Words: array[0..16] of string = ('accepted', 'length', 'digit', 'substance', '', 'quantity', 'heat', 'beyond', 'space', 'threshold', 'weak', 'strong',
-    'state', 'placement', 'surroundings', 'tag', 'double');
+  { air pressures in units of 10 Pa; the greatest threshold of a ring is 180 times that of its case }
+  StandardAir = 10130;
+  LeastAir = 5000;
+  GreatestAir = 11000;
+  GreatestThreshold = 180 * StandardAir;
+  { by number; none is numbered 4, and 17 and 18 are a sheet's }
+  Words: array[0..19] of string = ('accepted', 'length', 'digit', 'substance', '', 'quantity', 'heat', 'beyond', 'space', 'threshold', 'weak', 'strong',
+    'state', 'placement', 'surroundings', 'tag', 'double', '', '', 'air');
   { by number }
   Rules: array[0..4] of string = ('undecided', 'near-field value', 'detonation formula', 'deflagration formula', 'deflagration formula at 0.34');
   { 8 t of propane on the ground, 100 m away }
   Line = '11000104007A1200057803020000B540000027100046';
-  Frame: array[0..21] of Byte = ($11, 0, 1, 4, 0, $7A, $12, 0, 5, $78, 3, 2, 0, 0, $B5, $40, 0, 0, $27, $10, 0, $46);
+  Frame: array[0..FrameBytes - 1] of Byte = ($11, 0, 1, 4, 0, $7A, $12, 0, 5, $78, 3, 2, 0, 0, $B5, $40, 0, 0, $27, $10, 0, $46);
+  { the same in air of 80000 Pa, and with its 101300 Pa written out }
+  MountainLine = Line + '1F40';
+  FullLine = Line + '2792';
+  MountainFrame: array[0..LongFrameBytes - 1] of Byte = ($11, 0, 1, 4, 0, $7A, $12, 0, 5, $78, 3, 2, 0, 0, $B5, $40, 0, 0, $27, $10, 0, $46, $1F, $40);
+  FullFrame: array[0..LongFrameBytes - 1] of Byte = ($11, 0, 1, 4, 0, $7A, $12, 0, 5, $78, 3, 2, 0, 0, $B5, $40, 0, 0, $27, $10, 0, $46, $27, $92);
   { the same case, each time with one thing wrong }
   Wrong: array[1..9, 0..1] of string = (
     ('one character less', '11000104007A1200057803020000B54000002710004'),
@@ -37,6 +49,8 @@ type
   TArea = array[0..AnswerBytes + 2] of Byte;
   TOldArea = array[0..OldCharacters + 3] of Byte;
   TLineArea = array[0..LineCharacters + 3] of Byte;
+  TLongFrameArea = array[0..LongFrameBytes + 3] of Byte;
+  TLongLineArea = array[0..LongLineCharacters + 3] of Byte;
   TSpeller = function(given: PByte; count: SizeUInt; area: PByte; areaLength: SizeUInt): QWord; cdecl;
 
 { The promises of these are in yakepuhi.h. }
@@ -49,8 +63,8 @@ function yakepuhi_ring_from_frame(frame: PByte; frameLength: SizeUInt; threshold
 function yakepuhi_ring_from_line(line: PByte; lineLength: SizeUInt; threshold: QWord; inner, outer: PQWord): QWord; cdecl; external;
 function yakepuhi_frame_from_old(line: PByte; lineLength: SizeUInt; area: PByte; areaLength: SizeUInt): QWord; cdecl; external;
 function yakepuhi_old_from_frame(frame: PByte; frameLength: SizeUInt; area: PByte; areaLength: SizeUInt): QWord; cdecl; external;
-function yakepuhi_frame_from_fields(substance, state, placement, surroundings, mass, mean, stoichiometric, heat, distance, body: QWord;
-  area: PByte; areaLength: SizeUInt): QWord; cdecl; external;
+function yakepuhi_frame_from_fields(substance, state, placement, surroundings, mass, mean, stoichiometric, heat, distance, body,
+  air: QWord; area: PByte; areaLength: SizeUInt): QWord; cdecl; external;
 function yakepuhi_spell_frame(frame: PByte; frameLength: SizeUInt; area: PByte; areaLength: SizeUInt): QWord; cdecl; external;
 function yakepuhi_spell_line(line: PByte; lineLength: SizeUInt; area: PByte; areaLength: SizeUInt): QWord; cdecl; external;
 
@@ -103,6 +117,17 @@ begin
   WriteLn('  ', kept, ' bytes of the area kept');
 end;
 
+{ How many bytes from one on are still zero. }
+procedure PrintZeros(const area: array of Byte; from: Integer);
+var
+  i, zeros: Integer;
+begin
+  zeros := 0;
+  for i := from to High(area) do
+    if area[i] = 0 then Inc(zeros);
+  WriteLn('  ', zeros, ' bytes of the area zero');
+end;
+
 { The verdict, the answer, and how many bytes past it kept their mark. }
 procedure Show(const title: string; refusal: QWord; const area: TArea);
 var
@@ -138,21 +163,27 @@ begin
   Show(title, refusal, area);
 end;
 
+{ Which air a frame has, for a title. }
+function AirOf(count: SizeUInt): string;
+begin
+  if count = FrameBytes then AirOf := '' else AirOf := ' in mountain air';
+end;
+
 { The rules of a case in other surroundings and at another distance; a refusal leaves both numbers as they were. }
 procedure AskRules(bytes: PByte; count: SizeUInt; surroundings: Byte; metres: LongWord);
 var
-  moved: array[0..21] of Byte;
+  moved: array[0..LongFrameBytes - 1] of Byte;
   pressure, impulse, refusal: QWord;
   i: Integer;
 begin
   pressure := Mark;
   impulse := Mark;
-  Move(bytes^, moved, SizeOf(moved));
+  Move(bytes^, moved, count);
   moved[3] := surroundings;
   for i := 0 to 3 do
     moved[16 + i] := Byte(100 * metres shr (24 - 8 * i));
   refusal := yakepuhi_rules(@moved[0], count, @pressure, @impulse);
-  WriteLn('its rules in surroundings ', surroundings, ', ', metres, ' m away: ', Words[refusal]);
+  WriteLn('its rules in surroundings ', surroundings, ', ', metres, ' m away', AirOf(count), ': ', Words[refusal]);
   if refusal = 0 then
   begin
     WriteLn('  overpressure  ', Rules[pressure]);
@@ -175,14 +206,14 @@ begin
   other := 'another';
   refusal := yakepuhi_ring_from_line(PByte(PChar(text)), Length(text), threshold, @inner, @outer);
   if (yakepuhi_ring_from_frame(bytes, count, threshold, @near, @far) = refusal) and (inner = near) and (outer = far) then other := 'the same';
-  WriteLn('its ring of ', threshold, ' Pa: ', Words[refusal], ', from its bytes ', other);
+  WriteLn('its ring of ', threshold, ' Pa', AirOf(count), ': ', Words[refusal], ', from its bytes ', other);
   if refusal = 0 then
     WriteLn('  ', inner, ' to ', outer, ' cm')
   else
     WriteLn('  ', Ord(inner = Mark) + Ord(outer = Mark), ' numbers kept');
 end;
 
-{ A frame's line in the old form, and the frame that is taken in from it. }
+{ A frame's line in the old form, and the frame that is taken in from it, which has 22 bytes. }
 procedure AskOld(const title: string; bytes: PByte; count, room: SizeUInt);
 var
   area, again: TOldArea;
@@ -203,9 +234,9 @@ begin
   PrintKept(area, OldCharacters);
   refusal := yakepuhi_frame_from_old(@area[0], OldCharacters, @again[0], SizeOf(again));
   other := 'another frame';
-  if CompareByte(bytes^, again, count) = 0 then other := 'the same frame';
+  if CompareByte(bytes^, again, FrameBytes) = 0 then other := 'the same frame';
   WriteLn('taken in again: ', Words[refusal], ', ', other);
-  PrintKept(again, count);
+  PrintKept(again, FrameBytes);
 end;
 
 { An old line that has something wrong. }
@@ -246,7 +277,7 @@ begin
   PrintKept(again, LineCharacters);
 end;
 
-{ The frame of the case's ten numbers, three of them to choose, and its spelling. }
+{ The frame of the case's eleven numbers, three of them to choose, and its spelling. }
 procedure AskFields(const title: string; substance, mass, heat: QWord; room: SizeUInt);
 var
   area: TLineArea;
@@ -255,7 +286,7 @@ var
   i: Integer;
 begin
   FillChar(area, SizeOf(area), Mark);
-  refusal := yakepuhi_frame_from_fields(substance, 0, 1, 4, mass, 1400, 770, heat, 10000, 70, @area[0], room);
+  refusal := yakepuhi_frame_from_fields(substance, 0, 1, 4, mass, 1400, 770, heat, 10000, 70, StandardAir, @area[0], room);
   WriteLn(title, ': ', Words[refusal]);
   if refusal <> 0 then
   begin
@@ -280,7 +311,7 @@ end;
 { Frames from numbers, and spellings from bytes and from lines. }
 procedure AskWriting;
 begin
-  AskFields('its frame from ten numbers', 17, 8000000, 46400, SizeOf(TLineArea));
+  AskFields('its frame from eleven numbers', 17, 8000000, 46400, SizeOf(TLineArea));
   AskFields('its frame with the table''s heat', 17, 8000000, 46200, SizeOf(TLineArea));
   AskFields('its frame with heat 0, an area of 22 bytes', 17, 8000000, 0, SizeOf(Frame));
   AskFields('its frame with 2^32 g more', 17, 8000000 + QWord(1) shl 32, 46400, SizeOf(TLineArea));
@@ -291,6 +322,114 @@ begin
   AskLineSpelling('its line with the table''s heat, spelled', '11000104007A1200057803020000B478000027100046', SizeOf(TLineArea));
   AskLineSpelling('its line with a G, spelled', '11000104007A1200057803020000B54000002710004G', SizeOf(TLineArea));
   AskLineSpelling('its line, spelled, an area of 43 bytes', Line, LineCharacters - 1);
+end;
+
+{ A frame, from the case's eleven numbers in air of a pressure, lent 24 zeros and a few more: byte 22 tells its length. }
+procedure AskAirFields(const title: string; air: QWord; room: SizeUInt);
+var
+  area: TLongFrameArea;
+  refusal: QWord;
+  i, written: Integer;
+begin
+  FillChar(area, SizeOf(area), 0);
+  refusal := yakepuhi_frame_from_fields(17, 0, 1, 4, 8000000, 1400, 770, 46400, 10000, 70, air, @area[0], room);
+  written := 0;
+  WriteLn(title, ': ', Words[refusal]);
+  if refusal = 0 then
+  begin
+    written := FrameBytes;
+    if area[FrameBytes] <> 0 then written := LongFrameBytes;
+    Write('  ');
+    for i := 0 to written - 1 do
+      Write(HexStr(area[i], 2));
+    WriteLn(', ', written, ' bytes');
+  end;
+  PrintZeros(area, written);
+end;
+
+{ A spelling, lent 48 zeros and a few more: character 44 tells its length. It is spelled again. }
+procedure AskAirSpelling(const title: string; spell: TSpeller; given: PByte; count, room: SizeUInt);
+var
+  area, again: TLongLineArea;
+  refusal: QWord;
+  text, other: string;
+  written: Integer;
+begin
+  FillChar(area, SizeOf(area), 0);
+  FillChar(again, SizeOf(again), 0);
+  refusal := spell(given, count, @area[0], room);
+  WriteLn(title, ': ', Words[refusal]);
+  if refusal <> 0 then
+  begin
+    PrintZeros(area, 0);
+    Exit;
+  end;
+  written := LineCharacters;
+  if area[LineCharacters] <> 0 then written := LongLineCharacters;
+  SetString(text, PChar(@area[0]), written);
+  WriteLn('  ', text, ', ', written, ' characters');
+  PrintZeros(area, written);
+  refusal := yakepuhi_spell_line(@area[0], written, @again[0], written);
+  other := 'another';
+  if CompareByte(area, again, SizeOf(area)) = 0 then other := 'the same';
+  WriteLn('spelled again: ', Words[refusal], ', ', other);
+end;
+
+procedure AskAirLineSpelling(const title, text: string; room: SizeUInt);
+begin
+  AskAirSpelling(title, @yakepuhi_spell_line, PByte(PChar(text)), Length(text), room);
+end;
+
+{ Frames and spellings of both lengths. }
+procedure AskAirWriting;
+begin
+  AskAirFields('its frame from eleven numbers, air of 80000 Pa', 8000, LongFrameBytes);
+  AskAirFields('the same, air of 101300 Pa', StandardAir, LongFrameBytes);
+  AskAirFields('the same, air of 80000 Pa, an area of 23 bytes', 8000, LongFrameBytes - 1);
+  AskAirFields('the same, air of 101300 Pa, an area of 22 bytes', StandardAir, FrameBytes);
+  AskAirFields('the same, air of 49990 Pa', LeastAir - 1, LongFrameBytes);
+  AskAirFields('the same, air of 110010 Pa', GreatestAir + 1, LongFrameBytes);
+  AskAirFields('the same, air of 80000 Pa and 2^16 units more', 8000 + QWord(1) shl 16, LongFrameBytes);
+  AskAirSpelling('its spelling in mountain air', @yakepuhi_spell_frame, @MountainFrame[0], LongFrameBytes, LongLineCharacters);
+  AskAirSpelling('its spelling with 101300 Pa written out', @yakepuhi_spell_frame, @FullFrame[0], LongFrameBytes, LongLineCharacters);
+  AskAirLineSpelling('its line in mountain air, small letters, the table''s heat, spelled', '11000104007a1200057803020000b4780000271000461f40',
+    LongLineCharacters);
+  AskAirLineSpelling('its line with 101300 Pa written out, spelled, an area of 44 bytes', '11000104007a1200057803020000b5400000271000462792',
+    LineCharacters);
+  AskAirSpelling('its spelling in mountain air, an area of 47 bytes', @yakepuhi_spell_frame, @MountainFrame[0], LongFrameBytes, LongLineCharacters - 1);
+end;
+
+{ The case in mountain air, from all that takes a frame or a line, and with its standard air written out. }
+procedure AskMountains;
+var
+  lower, upper, refusal: QWord;
+begin
+  lower := 0;
+  upper := 0;
+  Ask('the case in air of 80000 Pa', MountainLine, AnswerBytes + 3);
+  AskFrame('the same from its 24 bytes', @MountainFrame[0], LongFrameBytes);
+  Ask('the case with 101300 Pa written out', FullLine, AnswerBytes + 3);
+  refusal := yakepuhi_overpressure(@MountainFrame[0], LongFrameBytes, @lower, @upper);
+  WriteLn('its overpressure alone in mountain air: ', Words[refusal]);
+  WriteLn('  ', lower, ' to ', upper, ' Pa');
+  refusal := yakepuhi_impulse(@MountainFrame[0], LongFrameBytes, @lower, @upper);
+  WriteLn('its impulse alone in mountain air: ', Words[refusal]);
+  WriteLn('  ', lower, ' to ', upper, ' Pa s');
+  { thinner air takes the near field farther }
+  AskRules(@Frame[0], SizeOf(Frame), 1, 33);
+  AskRules(@MountainFrame[0], LongFrameBytes, 1, 33);
+  AskRing(MountainLine, @MountainFrame[0], LongFrameBytes, 28000);
+  AskRing(MountainLine, @MountainFrame[0], LongFrameBytes, 1000);
+  AskRing(MountainLine, @MountainFrame[0], LongFrameBytes, 180 * 8000);
+  AskRing(MountainLine, @MountainFrame[0], LongFrameBytes, 180 * 8000 + 1);
+  Ask('46 characters', Line + '27', AnswerBytes + 3);
+  AskFrame('23 bytes', @MountainFrame[0], LongFrameBytes - 1);
+  Ask('air of 49990 Pa', Line + '1387', AnswerBytes + 3);
+  Ask('air of 110010 Pa', Line + '2AF9', AnswerBytes + 3);
+  AskOld('its old line in mountain air', @MountainFrame[0], LongFrameBytes, OldCharacters + 4);
+  AskOld('the same, an area of 115 bytes', @MountainFrame[0], LongFrameBytes, OldCharacters - 1);
+  AskOld('its old line with 101300 Pa written out', @FullFrame[0], LongFrameBytes, OldCharacters + 4);
+  AskAirWriting;
 end;
 
 var
@@ -329,4 +468,5 @@ begin
   AskOldLine('an old line with a distance of -100 m',
     '11000104' + '0140BF400000000000' + '024061800000000000' + '034053400000000000' + '044047333333333333' + '05C059000000000000' + '064051800000000000');
   AskWriting;
+  AskMountains;
 end.

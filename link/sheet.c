@@ -1,6 +1,6 @@
 /* A study sheet from C: the receptors of one yard are added, withdrawn and read and the gaps closed, with what is refused; then a sheet is filled,
-   and a third one has its totals followed. Each step prints its verdict and what the sheet holds then, with its totals, or what a refusal left as
-   it was. */
+   a third one has its totals followed, and a fourth holds cases in mountain air. Each step prints its verdict and what the sheet holds then, with
+   its totals, or what a refusal left as it was. */
 #include "yakepuhi.h"
 
 #include <inttypes.h>
@@ -23,6 +23,7 @@ static const char *word_of(uint64_t refusal)
 {
     switch (refusal) {
     case 0: return "accepted";
+    case 5: return "quantity";
     case 7: return "beyond";
     case 8: return "space";
     case 17: return "full";
@@ -31,7 +32,7 @@ static const char *word_of(uint64_t refusal)
     }
 }
 
-/* 8 t of propane on the ground, and a receptor so many metres away. */
+/* 8 t of propane on the ground, and a receptor so many metres away, in standard air. */
 static void put_case(uint8_t frame[YAKEPUHI_FRAME], uint32_t metres)
 {
     static const uint8_t propane[YAKEPUHI_FRAME] = { 0x11, 0, 1, 4, 0, 0x7A, 0x12, 0, 5, 0x78, 3, 2, 0, 0, 0xB5, 0x40, 0, 0, 0x27, 0x10, 0, 0x46 };
@@ -45,10 +46,19 @@ static uint32_t metres_of(const uint8_t *frame)
     return ((uint32_t)frame[16] << 24 | (uint32_t)frame[17] << 16 | (uint32_t)frame[18] << 8 | frame[19]) / 100;
 }
 
-static uint64_t upper_of(const uint8_t *frame)
+/* How long a frame is that was written over one byte throughout: 0 or the mark, of which neither begins a permitted air pressure. */
+static size_t length_of(const uint8_t *area, uint8_t lent) { return area[YAKEPUHI_FRAME] == lent ? YAKEPUHI_FRAME : YAKEPUHI_LONG_FRAME; }
+
+/* The air pressure in units of 10 Pa. */
+static unsigned air_of(const uint8_t *frame, size_t length)
+{
+    return length == YAKEPUHI_FRAME ? YAKEPUHI_STANDARD_AIR : (unsigned)frame[22] << 8 | frame[23];
+}
+
+static uint64_t upper_of(const uint8_t *frame, size_t length)
 {
     uint64_t lower = 0, upper = 0;
-    yakepuhi_overpressure(frame, YAKEPUHI_FRAME, &lower, &upper);
+    yakepuhi_overpressure(frame, length, &lower, &upper);
     return upper;
 }
 
@@ -70,21 +80,28 @@ static void print_totals(uint64_t of_frames)
 static void print_sheet(void)
 {
     uint32_t metres[YAKEPUHI_PLACES];
+    unsigned airs[YAKEPUHI_PLACES];
     uint64_t places[YAKEPUHI_PLACES], greatest = 0;
     int held = 0;
     for (uint64_t place = 1; place <= YAKEPUHI_PLACES; place++) {
-        uint8_t frame[YAKEPUHI_FRAME];
+        uint8_t frame[YAKEPUHI_LONG_FRAME] = { 0 };
         if (yakepuhi_sheet_case(sheet, sizeof sheet, place, frame, sizeof frame) == 0) {
+            size_t length = length_of(frame, 0);
             places[held] = place;
+            airs[held] = air_of(frame, length);
             metres[held++] = metres_of(frame);
-            uint64_t upper = upper_of(frame);
+            uint64_t upper = upper_of(frame, length);
             greatest = upper > greatest ? upper : greatest;
         }
     }
     printf("  held          %d of %d", held, YAKEPUHI_PLACES);
     for (int i = 0; i < held; i++)
-        if (i < SHOWN || i == held - 1)
-            printf("%s%" PRIu32 " m at %" PRIu64, i == 0 ? ": " : ", ", metres[i], places[i]);
+        if (i < SHOWN || i == held - 1) {
+            printf("%s%" PRIu32 " m", i == 0 ? ": " : ", ", metres[i]);
+            if (airs[i] != YAKEPUHI_STANDARD_AIR)
+                printf(" in %u Pa", 10 * airs[i]);
+            printf(" at %" PRIu64, places[i]);
+        }
     printf("\n");
     print_totals(greatest);
 }
@@ -123,21 +140,38 @@ static void print_after(uint64_t refusal, const uint8_t before[SHEET])
         print_kept(before);
 }
 
-/* Adds the case of a receptor. */
-static void add(const char *name, uint32_t metres, size_t told)
+/* Adds a case given as a frame. */
+static void add_frame(const char *name, const uint8_t *frame, size_t length, size_t told)
 {
-    uint8_t frame[YAKEPUHI_FRAME], before[SHEET];
+    uint8_t before[SHEET];
     uint64_t place = MARK;
-    put_case(frame, metres);
     memcpy(before, sheet, sizeof sheet);
-    uint64_t refusal = yakepuhi_sheet_add(sheet, told, frame, sizeof frame, &place);
-    printf("add %s, %" PRIu32 " m away", name, metres);
+    uint64_t refusal = yakepuhi_sheet_add(sheet, told, frame, length, &place);
+    printf("add %s, %" PRIu32 " m away", name, metres_of(frame));
     print_verdict(told, refusal);
     if (refusal == 0)
         printf("  place         %" PRIu64 "\n", place);
     else
         printf("  the number %s\n", place == MARK ? "kept" : "lost");
     print_after(refusal, before);
+}
+
+/* Adds the case of a receptor in standard air. */
+static void add(const char *name, uint32_t metres, size_t told)
+{
+    uint8_t frame[YAKEPUHI_FRAME];
+    put_case(frame, metres);
+    add_frame(name, frame, sizeof frame, told);
+}
+
+/* Adds the case of a receptor with its air pressure, in units of 10 Pa, written out. */
+static void add_in_air(const char *name, uint32_t metres, unsigned air)
+{
+    uint8_t frame[YAKEPUHI_LONG_FRAME];
+    put_case(frame, metres);
+    frame[22] = (uint8_t)(air >> 8);
+    frame[23] = (uint8_t)air;
+    add_frame(name, frame, sizeof frame, SHEET);
 }
 
 static void withdraw(uint64_t place, size_t told)
@@ -169,9 +203,10 @@ static void read_case(uint64_t place, size_t told, size_t room)
     uint64_t refusal = yakepuhi_sheet_case(sheet, told, place, area, room);
     printf("read place %" PRIu64 " into %zu bytes", place, room);
     print_verdict(told, refusal);
-    if (refusal == 0 && yakepuhi_overpressure(area, YAKEPUHI_FRAME, &lower, &upper) == 0)
+    size_t length = refusal == 0 ? length_of(area, MARK) : 0;
+    if (refusal == 0 && yakepuhi_overpressure(area, length, &lower, &upper) == 0)
         printf("  overpressure  %" PRIu64 " to %" PRIu64 " Pa, %" PRIu32 " m away\n", lower, upper, metres_of(area));
-    printf("  %d bytes of the area kept\n", kept_marks(area, refusal == 0 ? YAKEPUHI_FRAME : 0, sizeof area));
+    printf("  %d bytes of the area kept\n", kept_marks(area, length, sizeof area));
 }
 
 /* Asks for the totals, by which the sheet is not written either way. */
@@ -260,6 +295,25 @@ static void show_totals(void)
     withdraw(3, SHEET);
 }
 
+/* A sheet of both lengths; a case in standard air is read in 22 bytes, however it was added. */
+static void show_mountains(void)
+{
+    add("the pump house", 100, SHEET);
+    add_in_air("the pump house in air of 80000 Pa", 100, 8000);
+    add_in_air("the pump house with 101300 Pa written out", 100, YAKEPUHI_STANDARD_AIR);
+    add_in_air("the pump house in air of 110000 Pa", 100, YAKEPUHI_GREATEST_AIR);
+    read_case(1, SHEET, AREA);
+    read_case(2, SHEET, AREA);
+    read_case(3, SHEET, AREA);
+    read_case(2, SHEET, YAKEPUHI_LONG_FRAME);
+    read_case(2, SHEET, YAKEPUHI_LONG_FRAME - 1);
+    read_case(3, SHEET, YAKEPUHI_FRAME);
+    withdraw(1, SHEET);
+    withdraw(4, SHEET);
+    close_gaps(SHEET);
+    add_in_air("the pump house in air of 49990 Pa", 100, YAKEPUHI_LEAST_AIR - 1);
+}
+
 int main(void)
 {
     empty_sheet();
@@ -271,6 +325,9 @@ int main(void)
     printf("%d bytes behind the sheet kept\n", kept_marks(sheet, YAKEPUHI_SHEET, SHEET));
     empty_sheet();
     show_totals();
+    printf("%d bytes behind the sheet kept\n", kept_marks(sheet, YAKEPUHI_SHEET, SHEET));
+    empty_sheet();
+    show_mountains();
     printf("%d bytes behind the sheet kept\n", kept_marks(sheet, YAKEPUHI_SHEET, SHEET));
     return 0;
 }

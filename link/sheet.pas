@@ -1,6 +1,6 @@
 { A study sheet from Free Pascal: the receptors of one yard are added, withdrawn and read and the gaps closed, with what is refused; then a sheet
-  is filled, and a third one has its totals followed. Each step prints its verdict and what the sheet holds then, with its totals, or what a
-  refusal left as it was. }
+  is filled, a third one has its totals followed, and a fourth holds cases in mountain air. Each step prints its verdict and what the sheet holds
+  then, with its totals, or what a refusal left as it was. }
 program sheet;
 
 {$mode objfpc}{$H+}
@@ -9,17 +9,23 @@ program sheet;
 
 const
   FrameBytes = 22;
+  LongFrameBytes = 24;
   SheetBytes = 2048;
   Places = 64;
   Whole = SheetBytes + 3;
   Room = FrameBytes + 3;
   Shown = 4;
   Mark = $EE;
+  { air pressures in units of 10 Pa }
+  StandardAir = 10130;
+  LeastAir = 5000;
+  GreatestAir = 11000;
   { 8 t of propane on the ground, 100 m away }
   Propane: array[0..FrameBytes - 1] of Byte = ($11, 0, 1, 4, 0, $7A, $12, 0, 5, $78, 3, 2, 0, 0, $B5, $40, 0, 0, $27, $10, 0, $46);
 
 type
   TFrame = array[0..FrameBytes - 1] of Byte;
+  TLongFrame = array[0..LongFrameBytes - 1] of Byte;
   TSheet = array[0..Whole - 1] of Byte;
   TArea = array[0..Room - 1] of Byte;
 
@@ -46,6 +52,7 @@ function WordOf(refusal: QWord): string;
 begin
   case refusal of
     0: WordOf := 'accepted';
+    5: WordOf := 'quantity';
     7: WordOf := 'beyond';
     8: WordOf := 'space';
     17: WordOf := 'full';
@@ -54,7 +61,7 @@ begin
   end;
 end;
 
-{ 8 t of propane on the ground, and a receptor so many metres away. }
+{ 8 t of propane on the ground, and a receptor so many metres away, in standard air. }
 function CaseAt(metres: LongWord): TFrame;
 var
   i: Integer;
@@ -69,13 +76,25 @@ begin
   MetresOf := (LongWord(frame[16]) shl 24 or LongWord(frame[17]) shl 16 or LongWord(frame[18]) shl 8 or frame[19]) div 100;
 end;
 
-function UpperOf(const frame: TFrame): QWord;
+{ How long a frame is that was written over one byte throughout: 0 or the mark, of which neither begins a permitted air pressure. }
+function LengthOf(const area: array of Byte; lent: Byte): Integer;
+begin
+  if area[FrameBytes] = lent then LengthOf := FrameBytes else LengthOf := LongFrameBytes;
+end;
+
+{ The air pressure in units of 10 Pa. }
+function AirOf(const frame: TLongFrame; count: Integer): LongWord;
+begin
+  if count = FrameBytes then AirOf := StandardAir else AirOf := frame[22] * 256 + frame[23];
+end;
+
+function UpperOf(const frame: TLongFrame; count: Integer): QWord;
 var
   lower, upper: QWord;
 begin
   lower := 0;
   upper := 0;
-  yakepuhi_overpressure(@frame[0], FrameBytes, @lower, @upper);
+  yakepuhi_overpressure(@frame[0], count, @lower, @upper);
   UpperOf := upper;
 end;
 
@@ -99,29 +118,36 @@ end;
 { How many cases the sheet holds, the first ones and the last with their places, and the totals. }
 procedure PrintSheet;
 var
-  metres, at: array[0..Places - 1] of LongWord;
-  frame: TFrame;
+  metres, airs, at: array[0..Places - 1] of LongWord;
+  frame: TLongFrame;
   place: LongWord;
   upper, greatest: QWord;
-  i, held: Integer;
+  i, held, count: Integer;
 begin
   held := 0;
   greatest := 0;
   for place := 1 to Places do
+  begin
+    FillChar(frame, SizeOf(frame), 0);
     if yakepuhi_sheet_case(@Study[0], Whole, place, @frame[0], SizeOf(frame)) = 0 then
     begin
+      count := LengthOf(frame, 0);
       at[held] := place;
+      airs[held] := AirOf(frame, count);
       metres[held] := MetresOf(frame);
       Inc(held);
-      upper := UpperOf(frame);
+      upper := UpperOf(frame, count);
       if upper > greatest then greatest := upper;
     end;
+  end;
   Write('  held          ', held, ' of ', Places);
   for i := 0 to held - 1 do
     if (i < Shown) or (i = held - 1) then
     begin
       if i = 0 then Write(': ') else Write(', ');
-      Write(metres[i], ' m at ', at[i]);
+      Write(metres[i], ' m');
+      if airs[i] <> StandardAir then Write(' in ', 10 * airs[i], ' Pa');
+      Write(' at ', at[i]);
     end;
   WriteLn;
   PrintTotals(greatest);
@@ -160,18 +186,16 @@ begin
   if refusal = 0 then PrintSheet else PrintKept(before);
 end;
 
-{ Adds the case of a receptor. }
-procedure Add(const name: string; metres: LongWord; told: SizeUInt);
+{ Adds a case given as a frame. }
+procedure AddFrame(const name: string; const frame: array of Byte; told: SizeUInt);
 var
   before: TSheet;
-  frame: TFrame;
   place, refusal: QWord;
 begin
   before := Study;
-  frame := CaseAt(metres);
   place := Mark;
-  refusal := yakepuhi_sheet_add(@Study[0], told, @frame[0], SizeOf(frame), @place);
-  Write('add ', name, ', ', metres, ' m away');
+  refusal := yakepuhi_sheet_add(@Study[0], told, @frame[0], Length(frame), @place);
+  Write('add ', name, ', ', MetresOf(frame), ' m away');
   PrintVerdict(told, refusal);
   if refusal = 0 then
     WriteLn('  place         ', place)
@@ -180,6 +204,25 @@ begin
   else
     WriteLn('  the number lost');
   PrintAfter(refusal, before);
+end;
+
+{ Adds the case of a receptor in standard air. }
+procedure Add(const name: string; metres: LongWord; told: SizeUInt);
+begin
+  AddFrame(name, CaseAt(metres), told);
+end;
+
+{ Adds the case of a receptor with its air pressure, in units of 10 Pa, written out. }
+procedure AddInAir(const name: string; metres: LongWord; air: Word);
+var
+  shorter: TFrame;
+  frame: TLongFrame;
+begin
+  shorter := CaseAt(metres);
+  Move(shorter, frame, FrameBytes);
+  frame[22] := Hi(air);
+  frame[23] := Lo(air);
+  AddFrame(name, frame, Whole);
 end;
 
 procedure Withdraw(place: QWord; told: SizeUInt);
@@ -218,10 +261,10 @@ begin
   Write('read place ', place, ' into ', space, ' bytes');
   PrintVerdict(told, refusal);
   first := 0;
-  if refusal = 0 then first := FrameBytes;
+  if refusal = 0 then first := LengthOf(area, Mark);
   lower := 0;
   upper := 0;
-  if (refusal = 0) and (yakepuhi_overpressure(@area[0], FrameBytes, @lower, @upper) = 0) then
+  if (refusal = 0) and (yakepuhi_overpressure(@area[0], first, @lower, @upper) = 0) then
     WriteLn('  overpressure  ', lower, ' to ', upper, ' Pa, ', MetresOf(area), ' m away');
   WriteLn('  ', KeptMarks(area, first), ' bytes of the area kept');
 end;
@@ -323,6 +366,25 @@ begin
   Withdraw(3, Whole);
 end;
 
+{ A sheet of both lengths; a case in standard air is read in 22 bytes, however it was added. }
+procedure ShowMountains;
+begin
+  Add('the pump house', 100, Whole);
+  AddInAir('the pump house in air of 80000 Pa', 100, 8000);
+  AddInAir('the pump house with 101300 Pa written out', 100, StandardAir);
+  AddInAir('the pump house in air of 110000 Pa', 100, GreatestAir);
+  ReadCase(1, Whole, Room);
+  ReadCase(2, Whole, Room);
+  ReadCase(3, Whole, Room);
+  ReadCase(2, Whole, LongFrameBytes);
+  ReadCase(2, Whole, LongFrameBytes - 1);
+  ReadCase(3, Whole, FrameBytes);
+  Withdraw(1, Whole);
+  Withdraw(4, Whole);
+  CloseGaps(Whole);
+  AddInAir('the pump house in air of 49990 Pa', 100, LeastAir - 1);
+end;
+
 begin
   EmptySheet;
   ShowYard;
@@ -333,5 +395,8 @@ begin
   WriteLn(KeptMarks(Study, SheetBytes), ' bytes behind the sheet kept');
   EmptySheet;
   ShowTotals;
+  WriteLn(KeptMarks(Study, SheetBytes), ' bytes behind the sheet kept');
+  EmptySheet;
+  ShowMountains;
   WriteLn(KeptMarks(Study, SheetBytes), ' bytes behind the sheet kept');
 end.

@@ -7,7 +7,8 @@ use Rattle.guidance.specs.declared.Case.{Case}
 use Rattle.guidance.specs.declared.Cloud.{Cloud}
 use Rattle.guidance.specs.Cases.{Accepted}
 use Rattle.guidance.specs.CloudWords.{CloudOf}
-use Rattle.guidance.specs.Waves.{standardAir, overpressure, impulse}
+use Rattle.guidance.specs.AirPressure.{airOf}
+use Rattle.guidance.specs.Waves.{overpressure, impulse}
 use Rattle.guidance.specs.Probits.{probit1, probit2, probit3, probit4, probit5}
 use Rattle.guidance.specs.laws.Limits.{range-most}
 use Rattle.layout.specs.declared.Ends.{Ends}
@@ -20,15 +21,15 @@ use Rattle.answer.specs.Entering.{FiguresOf}
 use Rattle.blast.specs.Ending.{wave-ends}
 use Rattle.answer.proofs.Exactness.{probit-ends}
 
-module _ {c : Case} {k : Cloud} {w : Wave} (a : Accepted standardAir c) (q : CloudOf c k) (v : WaveOf standardAir c w) where
-  pressure-encloses : Encloses (w .pressure) (overpressure standardAir c) enough
+module _ {c : Case} {k : Cloud} {w : Wave} (a : Accepted (airOf c) c) (q : CloudOf c k) (v : WaveOf (airOf c) c w) where
+  pressure-encloses : Encloses (w .pressure) (overpressure (airOf c) c) enough
   pressure-encloses = v .pressure .value .encloses enough (le-refl enough)
 
-  impulse-encloses : Encloses (w .impulse) (impulse standardAir c) enough
+  impulse-encloses : Encloses (w .impulse) (impulse (airOf c) c) enough
   impulse-encloses = v .impulse .value .encloses enough (le-refl enough)
 
   pub figures : {p i : Ends} {r : Probits} → Rounded (w .pressure) p → Rounded (w .impulse) i
-      → AllProbits (w .pressure) (w .impulse) standardAir (c .body) r
+      → AllProbits (w .pressure) (w .impulse) (airOf c) (c .body) r
       → FiguresOf c (record { range = k .range; pressure = p; impulse = i; probits = r })
   unfolding probit1 probit2 probit3 probit4 probit5
   figures f g h =

@@ -11,7 +11,8 @@ use Rattle.exact.specs.Formula.{Formula}
 use Rattle.exact.specs.Between.{wholeZ, ExactBetween}
 use Rattle.guidance.specs.declared.Case.{Case}
 use Rattle.guidance.specs.Clouds.{rangeOf}
-use Rattle.guidance.specs.Waves.{standardAir, overpressure, impulse}
+use Rattle.guidance.specs.AirPressure.{airOf}
+use Rattle.guidance.specs.Waves.{overpressure, impulse}
 use Rattle.guidance.specs.Probits.{probit1, probit2, probit3, probit4, probit5}
 use Rattle.damage.specs.Damage.{damage}
 use Rattle.frame.specs.declared.Verdict.{Verdict}
@@ -52,13 +53,13 @@ pub record Answer (c : Case) (bytes : List ℕ) : Type 0 where
   pub pascalSeconds : Ends
   pub probits : Probits
   pub are : bytes ≡ answerBytes (rangeOf c) pascals pascalSeconds probits (readings probits)
-  pub pressure-ends : WaveEnds (overpressure standardAir c) pascals
-  pub impulse-ends : WaveEnds (impulse standardAir c) pascalSeconds
-  pub first : ProbitEnds (probit1 standardAir c) (probits .first)
-  pub second : ProbitEnds (probit2 standardAir c) (probits .second)
-  pub third : ProbitEnds (probit3 standardAir c) (probits .third)
-  pub fourth : ProbitEnds (probit4 standardAir c) (probits .fourth)
-  pub fifth : ProbitEnds (probit5 standardAir c) (probits .fifth)
+  pub pressure-ends : WaveEnds (overpressure (airOf c) c) pascals
+  pub impulse-ends : WaveEnds (impulse (airOf c) c) pascalSeconds
+  pub first : ProbitEnds (probit1 (airOf c) c) (probits .first)
+  pub second : ProbitEnds (probit2 (airOf c) c) (probits .second)
+  pub third : ProbitEnds (probit3 (airOf c) c) (probits .third)
+  pub fourth : ProbitEnds (probit4 (airOf c) c) (probits .fourth)
+  pub fifth : ProbitEnds (probit5 (airOf c) c) (probits .fifth)
 
 -- an accepted case writes the area's first 77 bytes only
 pub record Wrote (c : Case) (before after : List ℕ) : Type 0 where

@@ -6,10 +6,11 @@ use mathlib.Core.List.{List, [], _∷_}
 use lib.IntN.{pos}
 use Rattle.exact.specs.Fraction.{whole, _≈_}
 use Rattle.guidance.specs.declared.Case.{Case}
+use Rattle.guidance.specs.AirPressure.{airOf}
 use Rattle.guidance.specs.Substances.{classOf}
 use Rattle.guidance.specs.Clouds.{rangeOf, energy}
 use Rattle.guidance.specs.Distances.{nearer, cube02}
-use Rattle.guidance.specs.Waves.{standardAir, reducedPressure}
+use Rattle.guidance.specs.Waves.{reducedPressure}
 use Rattle.refusals.specs.declared.Fault.the-variants.{Substance, Heat}
 use Rattle.fields.specs.Bytes.{fieldsOf}
 use Rattle.frame.specs.declared.Refusal.the-variants.{Faulty, Beyond}
@@ -37,14 +38,14 @@ propane =
 pub record KnownCases : Type 0 where
   pub q-range : rangeOf (fieldsOf (q 0 100)) ≡ 1
   pub q-energy : energy (fieldsOf (q 0 100)) ≈ whole 101300
-  pub q-20-cm : nearer cube02 standardAir (fieldsOf (q 0 20)) ≡ false
-  pub q-19-cm : nearer cube02 standardAir (fieldsOf (q 0 19)) ≡ true
+  pub q-20-cm : nearer cube02 (airOf (fieldsOf (q 0 20))) (fieldsOf (q 0 20)) ≡ false
+  pub q-19-cm : nearer cube02 (airOf (fieldsOf (q 0 19))) (fieldsOf (q 0 19)) ≡ true
   pub q-19-cm-pressure
       : (bytes : List ℕ) (a : Answer (fieldsOf (q 0 19)) bytes) → (a .pascals .lower ≤ 1823400) × (1823400 ≤ a .pascals .upper)
   pub q-2400-cm : frameVerdict (q 0 2400) 77 ≡ Accepted (fieldsOf (q 0 2400))
   pub q-2401-cm : frameVerdict (q 0 2401) 77 ≡ Refused Beyond
   -- Px = 0.285, in thousandths 285; 28,870.5 Pa lies inside
-  pub q-heterogeneous : ExactBetween 1000 (reducedPressure standardAir (fieldsOf (q 1 100))) (pos 285) (pos 285)
+  pub q-heterogeneous : ExactBetween 1000 (reducedPressure (airOf (fieldsOf (q 1 100))) (fieldsOf (q 1 100))) (pos 285) (pos 285)
   pub q-heterogeneous-pressure
       : (bytes : List ℕ) (a : Answer (fieldsOf (q 1 100)) bytes) → (10 * a .pascals .lower ≤ 288705) × (288705 ≤ 10 * a .pascals .upper)
   pub class-1-in-1 : (c : Case) → classOf (c .substance) ≡ 1 → c .surroundings ≡ 1 → rangeOf c ≡ 1

@@ -1,2 +1,3 @@
 pub mod Known
+pub mod KnownAirs
 pub mod Entries

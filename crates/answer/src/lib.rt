@@ -1,7 +1,7 @@
 // The entries: a case, as a frame's bytes or as a line, is answered into a lent area of at least 77 bytes, or refused.
 ghost use mathlib.Core.Path.{_≡_};
 ghost use Rattle.guidance.specs.Cases.{Accepted};
-ghost use Rattle.guidance.specs.Waves.{standardAir};
+ghost use Rattle.guidance.specs.AirPressure.{airOf};
 ghost use Rattle.answer.specs.Answer.{reading, readings, Wrote, FromFrame, FromLine};
 ghost use Rattle.answer.specs.Entering.{FiguresOf, Due, Enterable, Entered};
 use frame::Verdict;
@@ -20,14 +20,15 @@ struct Figures {
 }
 
 fn figures_of(c: Case) -> Figures
-    requires { ⌜ Accepted standardAir c ⌝ }
+    requires { ⌜ Accepted (airOf c) c ⌝ }
     ensures { λ f. ⌜ FiguresOf c f ⌝ }
 {
+    let air = guidance::air_of(c);
     let k = guidance::cloud_of(c);
-    let w = blast::wave_of(c, k, guidance::STANDARD_AIR);
+    let w = blast::wave_of(c, k, air);
     let pressure = blast::ends(w.pressure);
     let impulse = blast::ends(w.impulse);
-    let probits = probits::probits_of(w.pressure, w.impulse, guidance::STANDARD_AIR, c.body);
+    let probits = probits::probits_of(w.pressure, w.impulse, air, c.body);
     Figures {
         range: k.range,
         pressure,

@@ -105,8 +105,7 @@ fn reduced_distance(c: Case, k: Cloud, air: u64) -> Span
     ensures { λ r. ⌜ Enclosure (reducedDistance air c) distanceWindow r ⌝ }
 {
     let joules = energy(k);
-    let pascals = span::whole(air);
-    let share = span::quo(joules, pascals);
+    let share = span::quo_whole(joules, air, guidance::STANDARD_AIR);
     let root = cube_root(share);
     let metres = span::fraction(c.distance, 100);
     span::quo(metres, root)

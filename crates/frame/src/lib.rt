@@ -1,12 +1,14 @@
 // The case frame and the line that spells it: refusals in their order, the verdict.
 ghost use mathlib.Core.Path.{_≡_};
+ghost use mathlib.Core.Bool.{_||_};
+ghost use lib.Dec.{eqb};
 ghost use Rattle.guidance.specs.CloudWords.{Heated};
 ghost use Rattle.refusals.specs.Faults.{filled};
 ghost use Rattle.limits.specs.Checks.{HeatedIfSound};
 ghost use Rattle.frame.specs.Refusals.{number, code, word};
 ghost use Rattle.frame.specs.Tests.{beyond};
 ghost use Rattle.frame.specs.Verdicts.{frameVerdict, lineVerdict};
-ghost use Rattle.frame.specs.Checks.{frameChecked, lineChecked, placed, judged};
+ghost use Rattle.frame.specs.Checks.{frameChecked, lineRead, caseTested, lineChecked, placed, judged};
 use guidance::Case;
 use limits::Checked;
 use refusals::Fault;
@@ -58,31 +60,61 @@ pub fn code_of(v: Verdict) -> u64
     }
 }
 
+// Whether a length is one of two.
+fn is_either(a: usize, b: usize, n: usize) -> bool
+    ensures { λ r. ⌜ r ≡ (eqb n a || eqb n b) ⌝ }
+{
+    if n == a { true } else { n == b }
+}
+
 // Tests 1 to 6 of a frame given as bytes.
 pub fn check_frame(frame: &[u8]) -> Checked
     ensures { λ r. ⌜ r ≡ frameChecked (now (frame .entry)) ⌝ }
 {
-    if frame.len() == 22 {
+    if is_either(22, 24, frame.len()) {
         limits::check(fields::read(frame))
     } else {
         Checked::Unsound(Fault::Length)
     }
 }
 
-// Tests 1 to 6 of a line: once it has 44 digits, those of the frame that it spells.
-pub fn check_line(line: &[u8]) -> Checked
-    ensures { λ r. ⌜ r ≡ lineChecked (now (line .entry)) ⌝ }
+// Tests 1 and 2 of a line, and the case of the frame that it spells. Each length has its own array, so that the loops over it are unrolled.
+fn read_line(line: &[u8]) -> Checked
+    ensures { λ r. ⌜ r ≡ lineRead (now (line .entry)) ⌝ }
 {
     if line.len() == 44 {
         let mut frame = [0u8; 22];
         if hexadecimals::spell(line, &mut frame) {
-            check_frame(&frame)
-        } else {
-            Checked::Unsound(Fault::Digit)
+            return Checked::Sound(fields::read(&frame));
         }
-    } else {
-        Checked::Unsound(Fault::Length)
+        return Checked::Unsound(Fault::Digit);
     }
+    if line.len() == 48 {
+        let mut frame = [0u8; 24];
+        if hexadecimals::spell(line, &mut frame) {
+            return Checked::Sound(fields::read(&frame));
+        }
+        return Checked::Unsound(Fault::Digit);
+    }
+    Checked::Unsound(Fault::Length)
+}
+
+// What tests 1 and 2 found stands, else 3 to 6 decide.
+fn test_case(s: Checked) -> Checked
+    ensures { λ r. ⌜ r ≡ caseTested s ⌝ }
+{
+    match s {
+        Checked::Sound(c) => limits::check(c),
+        Checked::Unsound(f) => Checked::Unsound(f),
+    }
+}
+
+// Tests 1 to 6 of a line.
+pub fn check_line(line: &[u8]) -> Checked
+    ensures { λ r. ⌜ r ≡ lineChecked (now (line .entry)) ⌝ }
+{
+    let s = read_line(line);
+    test_case(s)
 }
 
 // Test 7, for a case that passed tests 1 to 6.
@@ -91,7 +123,7 @@ pub fn is_beyond(c: Case) -> bool
     ensures { λ r. ⌜ r ≡ beyond c ⌝ }
 {
     let cloud = guidance::cloud_of(c);
-    guidance::is_beyond(c, cloud, guidance::STANDARD_AIR)
+    guidance::is_beyond(c, cloud, guidance::air_of(c))
 }
 
 // Tests 7 and 8.

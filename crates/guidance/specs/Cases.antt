@@ -1,4 +1,4 @@
--- What an accepted case is (document 01, "The case frame", "Refused cases"), for the promises above.
+-- What an accepted case is (document 01, "The case frame", "Refused cases"; request 11), for the promises above.
 use Prim.Native.Nat.{ℕ, _≤_, _<_}
 use mathlib.Core.Path.{_≡_}
 use mathlib.Core.Bool.{false}
@@ -29,6 +29,8 @@ pub record Fields (c : Case) : Type 0 where
   pub distance-most : c .distance ≤ 1000000
   pub body : 1 ≤ c .body
   pub body-most : c .body ≤ 500
+  pub air : 5000 ≤ c .air
+  pub air-most : c .air ≤ 11000
 
 -- accepted: fields in their values, a heat, and Rx not greater than 24
 pub record Accepted (air : ℕ) (c : Case) : Type 0 where

@@ -1,5 +1,6 @@
 -- The guidance: definitions to believe, and laws.
 pub mod Substances
+pub mod AirPressure
 pub mod Ranges
 pub mod Clouds
 pub mod Distances

@@ -1,4 +1,4 @@
--- Pressure and impulse of the wave as formulas (document 01, "Wave formulas"). `air` is P0 in Pa; a case frame of 22 bytes fixes it.
+-- Pressure and impulse of the wave as formulas (document 01, "Wave formulas"). `air` is P0 in Pa: of an answer, the case's own.
 use Prim.Native.Nat.{ℕ, _-_}
 use mathlib.Core.Bool.{Bool, cond}
 use native.Mathlib.Omega.{arith}
@@ -51,10 +51,7 @@ square x = wholePower x 2
 abbrev pub cube : Formula → Formula
 cube x = wholePower x 3
 
--- P0 and C0
-abbrev pub standardAir : ℕ
-standardAir = 101300
-
+-- C0
 abbrev pub sound : Formula
 sound = number (whole 340)
 

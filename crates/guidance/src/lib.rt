@@ -4,6 +4,7 @@ ghost use mathlib.Core.Bool.{_&&_};
 ghost use Prim.Native.Nat.{_≤_};
 ghost use lib.Dec.{eqb, ltb};
 ghost use Rattle.guidance.specs.Substances.{heatOf};
+ghost use Rattle.guidance.specs.AirPressure.{airOf};
 ghost use Rattle.guidance.specs.Clouds.{rangeOf};
 ghost use Rattle.guidance.specs.Distances.{nearer, farther, cube034, cube24};
 ghost use Rattle.guidance.specs.Waves.{nearField};
@@ -14,7 +15,10 @@ mod arithmetic;
 mod ranges;
 mod substances;
 
-// The air pressure of a frame of 22 bytes, Pa (001).
+// The air pressure that a frame of 22 bytes has, in units of 10 Pa (001).
+pub const STANDARD: u64 = 10130;
+
+// The same in Pa.
 pub const STANDARD_AIR: u64 = 101300;
 
 // A case, field by field as its frame gives it.
@@ -39,6 +43,8 @@ pub struct Case {
     pub distance: u64,
     // kg
     pub body: u64,
+    // air pressure, units of 10 Pa
+    pub air: u64,
 }
 
 // What is worked out of a case once: its speed range, and its energy E = joules/parts, times 3/4 where `aerosol` holds.
@@ -59,6 +65,14 @@ pub fn heat_of(c: Case) -> u64
     } else {
         440 * substances::beta_of(c.substance)
     }
+}
+
+// P0 in Pa.
+pub fn air_of(c: Case) -> u64
+    requires { ⌜ Fields c ⌝ }
+    ensures { λ r. ⌜ r ≡ airOf c ⌝ }
+{
+    10 * c.air
 }
 
 // The printed range of the substance's class in its surroundings.

@@ -18,13 +18,24 @@ pub(crate) fn answer_to_frame(frame: &[u8], area: &mut [u8], room: usize) -> u64
 }
 
 // The same for the frame that a line spells, if it spells one.
+fn answer_to_spelled(line: &[u8], frame: &mut [u8], area: &mut [u8], room: usize) -> u64
+    requires { ⌜ (length (now frame) ≤ 24) × (room ≤ length (now area)) ⌝ }
+{
+    if hexadecimals::spell(line, frame) {
+        answer_to_frame(frame, area, room)
+    } else {
+        NO_FRAME
+    }
+}
+
+// In 24 bytes of a line of 48 characters, in 22 of any other.
 pub(crate) fn answer_as_frame(line: &[u8], area: &mut [u8], room: usize) -> u64
     requires { ⌜ room ≤ length (now area) ⌝ }
 {
-    let mut frame = [0u8; 22];
-    if hexadecimals::spell(line, &mut frame) {
-        answer_to_frame(&frame, area, room)
+    let mut frame = [0u8; 24];
+    if line.len() == 48 {
+        answer_to_spelled(line, &mut frame, area, room)
     } else {
-        NO_FRAME
+        answer_to_spelled(line, &mut frame[..22], area, room)
     }
 }

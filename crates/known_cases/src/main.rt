@@ -135,7 +135,7 @@ fn main() {
     show_lengths();
     let table = show_table();
     show_files(
-        b"known\nexamples\nsubstances\nclasses\nbranches\nboundaries\nextremes\nrefusals\nrandom",
+        b"known\nexamples\nsubstances\nclasses\nbranches\nboundaries\nextremes\nrefusals\nrandom\nairs",
         Kind::Vectors,
         &table,
     );

@@ -36,7 +36,7 @@ fn take_in(line: &[u8], area: &mut [u8], room: usize) -> u64
 fn give_back(frame: &[u8], area: &mut [u8], room: usize) -> u64
     requires { ⌜ room ≤ length (now area) ⌝ }
 {
-    writable::code_of(to_old::to_line(frame, &mut area[..room]))
+    to_old::code_of(to_old::to_line(frame, &mut area[..room]))
 }
 
 // A frame is shown by its digits.

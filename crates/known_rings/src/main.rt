@@ -1,5 +1,7 @@
 // The test program of rings: each request of its input, a threshold and a line, answered from the line and from the frame that it spells.
 // Its stored output is that of a separate calculation.
+ghost use Prim.Native.Nat.{_≤_};
+ghost use lib.ListN.{length};
 use libc::STDIN_FILENO;
 use libc::STDOUT_FILENO;
 use ring::Answer;
@@ -27,12 +29,24 @@ fn show_answer(a: Answer) {
     }
 }
 
-fn show_frame(line: &[u8], threshold: u64) {
-    let mut frame = [0u8; 22];
-    if hexadecimals::spell(line, &mut frame) {
-        show_answer(ring::from_frame(&frame, threshold));
+// The frame that the line spells, if it spells one.
+fn show_spelled(line: &[u8], frame: &mut [u8], threshold: u64)
+    requires { ⌜ length (now frame) ≤ 24 ⌝ }
+{
+    if hexadecimals::spell(line, frame) {
+        show_answer(ring::from_frame(frame, threshold));
     } else {
         print(b"-");
+    }
+}
+
+// In 24 bytes of a line of 48 characters, in 22 of any other.
+fn show_frame(line: &[u8], threshold: u64) {
+    let mut frame = [0u8; 24];
+    if line.len() == 48 {
+        show_spelled(line, &mut frame, threshold);
+    } else {
+        show_spelled(line, &mut frame[..22], threshold);
     }
 }
 

@@ -1,5 +1,7 @@
 // The test program of rules: each case of its input, a line, answered from the line and from the frame that it spells.
 // Its stored output is that of a separate calculation.
+ghost use Prim.Native.Nat.{_≤_};
+ghost use lib.ListN.{length};
 use libc::STDIN_FILENO;
 use libc::STDOUT_FILENO;
 use rules::Answer;
@@ -29,12 +31,24 @@ fn show_answer(a: Answer) {
     }
 }
 
-fn show_frame(line: &[u8]) {
-    let mut frame = [0u8; 22];
-    if hexadecimals::spell(line, &mut frame) {
-        show_answer(rules::from_frame(&frame));
+// The frame that the line spells, if it spells one.
+fn show_spelled(line: &[u8], frame: &mut [u8])
+    requires { ⌜ length (now frame) ≤ 24 ⌝ }
+{
+    if hexadecimals::spell(line, frame) {
+        show_answer(rules::from_frame(frame));
     } else {
         print(b"-");
+    }
+}
+
+// In 24 bytes of a line of 48 characters, in 22 of any other.
+fn show_frame(line: &[u8]) {
+    let mut frame = [0u8; 24];
+    if line.len() == 48 {
+        show_spelled(line, &mut frame);
+    } else {
+        show_spelled(line, &mut frame[..22]);
     }
 }
 

@@ -1,5 +1,7 @@
 // The test program of sheets: each operation of its input, a line, on a sheet by value and on a lent one.
 // Its stored output is that of a separate calculation on a plain list with holes.
+ghost use Prim.Native.Nat.{_≤_};
+ghost use lib.ListN.{length};
 use guidance::Case;
 use libc::STDIN_FILENO;
 use libc::STDOUT_FILENO;
@@ -29,13 +31,28 @@ fn print_code(letter: &[u8], n: u64) {
     }
 }
 
-// A case as 44 digits.
+// The first n bytes of a frame as digits.
+fn print_digits(frame: &[u8; 24], n: usize)
+    requires { ⌜ n ≤ 24 ⌝ }
+{
+    let mut digits = [0u8; 48];
+    hexadecimals::write(frame, &mut digits);
+    print(&digits[..2 * n]);
+}
+
+// A frame of which 24 zeros were lent: of one of 22 bytes the last two are left.
+fn print_frame(frame: &[u8; 24]) {
+    if frame[22] == 0 {
+        print_digits(frame, 22);
+    } else {
+        print_digits(frame, 24);
+    }
+}
+
 fn print_case(c: Case) {
-    let mut frame = [0u8; 22];
+    let mut frame = [0u8; 24];
     fields::write(&mut frame, c);
-    let mut digits = [0u8; 44];
-    hexadecimals::write(&frame, &mut digits);
-    print(&digits);
+    print_frame(&frame);
 }
 
 fn show_placing(p: Placing) {
@@ -63,10 +80,11 @@ fn add_line(s: Sheet, line: &[u8]) -> Sheet {
     added.sheet
 }
 
-fn add_frame(s: Sheet, line: &[u8]) -> Sheet {
-    let mut frame = [0u8; 22];
-    if hexadecimals::spell(line, &mut frame) {
-        let added = s.add_frame(&frame);
+fn add_spelled(s: Sheet, line: &[u8], frame: &mut [u8]) -> Sheet
+    requires { ⌜ length (now frame) ≤ 24 ⌝ }
+{
+    if hexadecimals::spell(line, frame) {
+        let added = s.add_frame(frame);
         let answer = added.answer;
         show_placing(answer);
         added.sheet
@@ -76,12 +94,23 @@ fn add_frame(s: Sheet, line: &[u8]) -> Sheet {
     }
 }
 
+// A frame has 24 bytes of a line of 48 characters, 22 of any other.
+fn add_frame(s: Sheet, line: &[u8]) -> Sheet {
+    let mut frame = [0u8; 24];
+    if line.len() == 48 {
+        add_spelled(s, line, &mut frame)
+    } else {
+        add_spelled(s, line, &mut frame[..22])
+    }
+}
+
 // The same on the lent sheet, from the frame.
-fn add_lent(lent: &mut [u8], line: &[u8]) {
-    let mut frame = [0u8; 22];
-    if hexadecimals::spell(line, &mut frame) {
+fn add_spelled_lent(lent: &mut [u8], line: &[u8], frame: &mut [u8])
+    requires { ⌜ length (now frame) ≤ 24 ⌝ }
+{
+    if hexadecimals::spell(line, frame) {
         let mut place = 0;
-        let n = lent_sheet::add(lent, &frame, &mut place);
+        let n = lent_sheet::add(lent, frame, &mut place);
         if n == 0 {
             print_marked(b"@", place);
         } else {
@@ -89,6 +118,15 @@ fn add_lent(lent: &mut [u8], line: &[u8]) {
         }
     } else {
         print(b"-");
+    }
+}
+
+fn add_lent(lent: &mut [u8], line: &[u8]) {
+    let mut frame = [0u8; 24];
+    if line.len() == 48 {
+        add_spelled_lent(lent, line, &mut frame);
+    } else {
+        add_spelled_lent(lent, line, &mut frame[..22]);
     }
 }
 
@@ -112,11 +150,11 @@ fn close(s: Sheet, lent: &mut [u8]) -> Sheet {
 fn hold(s: Sheet, lent: &[u8], place: u64) -> Sheet {
     show_found(b"H", s.case_at(place as usize));
     print(b" ");
-    let mut frame = [0u8; 22];
+    let mut frame = [0u8; 24];
     let n = lent_sheet::case_at(lent, place, &mut frame);
     print_code(b"H", n);
     if n == 0 {
-        print_case(fields::read(&frame));
+        print_frame(&frame);
     }
     s
 }

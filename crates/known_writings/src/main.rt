@@ -28,7 +28,7 @@ fn show_part(text: &[u8], n: usize)
     }
 }
 
-// Ten numbers in the order of a frame.
+// Eleven numbers in the order of a frame.
 fn fields_of(text: &[u8]) -> Case {
     let substance = scan::next_word(text, 0);
     let state = scan::next_word(text, substance.next);
@@ -40,6 +40,7 @@ fn fields_of(text: &[u8]) -> Case {
     let heat = scan::next_word(text, stoichiometric.next);
     let distance = scan::next_word(text, heat.next);
     let body = scan::next_word(text, distance.next);
+    let air = scan::next_word(text, body.next);
     Case {
         substance: substance.value,
         state: state.value,
@@ -51,6 +52,7 @@ fn fields_of(text: &[u8]) -> Case {
         heat: heat.value,
         distance: distance.value,
         body: body.value,
+        air: air.value,
     }
 }
 

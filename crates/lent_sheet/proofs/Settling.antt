@@ -171,18 +171,21 @@ module _ (k : ℕ) (s area : List ℕ) (b : Sheet) (x : Found) (room : size ≤ 
       let nothing = found-none _ Vacant (there-is ∙ e) in
       shows-by k s area (some (vacancyNumber Vacant)) none area (rw (le-ltb (length s) size room, nothing) refl) nothing refl
 
-  pub narrow-show : (c : Case) → x ≡ there.Held c → length area < 22 → Shows k s area space area
+  pub narrow-show : (c : Case) {n : ℕ} → x ≡ there.Held c → n ≡ length (frameBytes c) → length area < n → Shows k s area space area
   unfolding showTests firstOf
-  narrow-show c e h =
-      let case = found-some _ c (there-is ∙ e) .1 in
-      shows-by k s area (some space) _ area (rw (le-ltb (length s) size room, case, lt-ltb (length area) 22 h) refl) case refl
+  narrow-show c e m h =
+      let there = found-some (at (lent s) k) c (there-is ∙ e) in
+      let case = there .1 in
+      let few : length area < length (frameBytes (there .0 .case)) = rw (there .2) (omega arith) in
+      shows-by k s area (some space) _ area (rw (le-ltb (length s) size room, case, lt-ltb (length area) _ few) refl) case refl
 
-  pub case-shown : (c : Case) → x ≡ there.Held c → 22 ≤ length area → (after : List ℕ) → after ≡ sets area 0 (frameBytes c) → Shows k s area 0 after
+  pub case-shown : (c : Case) → x ≡ there.Held c → length (frameBytes c) ≤ length area → (after : List ℕ) → after ≡ sets area 0 (frameBytes c) → Shows k s area 0 after
   unfolding showTests firstOf
   case-shown c e h after w =
-      let there = found-some _ c (there-is ∙ e) in
+      let there = found-some (at (lent s) k) c (there-is ∙ e) in
       let case = there .1 in
-      shows-by k s area none (some (there .0)) after (rw (le-ltb (length s) size room, case, le-ltb (length area) 22 h) refl) case
+      let enough : length (frameBytes (there .0 .case)) ≤ length area = rw (there .2) h in
+      shows-by k s area none (some (there .0)) after (rw (le-ltb (length s) size room, case, le-ltb (length area) _ enough) refl) case
       (w ∙ ap (λ (d : Case). sets area 0 (frameBytes d)) (sym (there .2)))
 
 -- the totals

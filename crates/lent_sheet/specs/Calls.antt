@@ -1,4 +1,4 @@
--- What the calls on a lent sheet promise: one number, and every lent byte (request 7); its totals (request 8).
+-- What the calls on a lent sheet promise: one number, and every lent byte (request 7); its totals (request 8); frames of both lengths (request 11).
 use Prim.Native.Nat.{ℕ, _+_}
 use mathlib.Core.Path.{_≡_}
 use mathlib.Core.List.{List, [], _∷_, _++_}
@@ -48,9 +48,14 @@ tests (add frame u) s =
 tests (withdraw k) s = placeTests k s
 tests close s = (space when short s) ∷ []
 
+-- the bytes of the frame that is read at a place
+abbrev pub frameLength : Option Held → ℕ
+frameLength none = 0
+frameLength (some h) = length (frameBytes (h .case))
+
 -- of reading a case, and last 8 of the area
 unfoldable pub showTests : (place : ℕ) (s : List ℕ) (room : ℕ) → List (Test ℕ)
-showTests k s room = placeTests k s ++ (space when ltb room 22) ∷ []
+showTests k s room = placeTests k s ++ (space when ltb room (frameLength (at (lent s) k))) ∷ []
 
 -- 0, or the number of the first test that applies
 abbrev pub code : Option ℕ → ℕ

@@ -1,8 +1,9 @@
 -- A sequence of calls on lent bytes, each on the bytes that the one before it left, and what the caller is told (request 7).
-use Prim.Native.Nat.{ℕ, zero, suc, _≤_}
+use Prim.Native.Nat.{ℕ, zero, suc}
 use mathlib.Core.List.{List, [], _∷_}
 use mathlib.Core.Option.{Option}
-use lib.ListN.{length, take}
+use lib.ListN.{replicate}
+use lib.Seq.{sets}
 use Rattle.fields.specs.Bytes.{frameBytes}
 use Rattle.places.specs.declared.Held.{Held}
 use Rattle.sheet.specs.declared.Placing.the-variants as placing
@@ -13,7 +14,7 @@ use Rattle.sheet.specs.Operations as sheet
 use Rattle.sheet.specs.Operations.{Operation, Told, act, found}
 use Rattle.lent_sheet.specs.Calls.{withdraw, close, Acts, Adds, Shows}
 
--- a refusal's number, a place, the bytes of a frame, or nothing more than 0
+-- a refusal's number, a place, what was lent for a frame, or nothing more than 0
 pub data Reply : Type 0 where
   refused : ℕ → Reply
   placed : ℕ → Reply
@@ -25,7 +26,11 @@ abbrev pub reply : (returned : ℕ) → Reply → Reply
 reply zero x = x
 reply (suc n) x = refused (suc n)
 
--- from s, these calls told this, and left t; an area with room is lent for a frame
+-- what is lent for a frame: 24 zeros, so that one of 22 bytes, behind which they are left, is told from one of 24
+abbrev pub blank : List ℕ
+blank = replicate 24 0
+
+-- from s, these calls told this, and left t
 pub data Run : (s : List ℕ) (operations : List Operation) (replies : List Reply) (t : List ℕ) → Type 0 where
   ends : {s : List ℕ} → Run s [] [] s
   adds
@@ -44,11 +49,10 @@ pub data Run : (s : List ℕ) (operations : List Operation) (replies : List Repl
       Run u operations replies t →
       Run s (sheet.close ∷ operations) (reply n done ∷ replies) t
   reads
-      : {s : List ℕ} {k n : ℕ} {area after : List ℕ} {operations : List Operation} {replies : List Reply} {t : List ℕ} →
-      22 ≤ length area →
-      Shows k s area n after →
+      : {s : List ℕ} {k n : ℕ} {after : List ℕ} {operations : List Operation} {replies : List Reply} {t : List ℕ} →
+      Shows k s blank n after →
       Run s operations replies t →
-      Run s (sheet.caseAt k ∷ operations) (reply n (shows (take 22 after)) ∷ replies) t
+      Run s (sheet.caseAt k ∷ operations) (reply n (shows after) ∷ replies) t
 
 -- the same of a plain list with holes: what its answers tell a caller
 abbrev pub telling : Told → Reply
@@ -59,7 +63,7 @@ telling (sheet.finding (there.Refused v)) = refused (vacancyNumber v)
 telling (sheet.counting n) = done
 
 abbrev pub showing : Found → Reply
-showing (there.Held c) = shows (frameBytes c)
+showing (there.Held c) = shows (sets blank 0 (frameBytes c))
 showing (there.Refused v) = refused (vacancyNumber v)
 
 unfoldable pub replyOf : List (Option Held) → Operation → Reply

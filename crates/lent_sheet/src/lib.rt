@@ -10,9 +10,6 @@ use sheet::Sheet;
 use sheet_bytes::SIZE;
 use totals::Totals;
 
-// The bytes of a case frame.
-const FRAME: usize = 22;
-
 // Too few bytes are lent.
 const SPACE: u64 = 8;
 
@@ -83,7 +80,7 @@ pub fn close(s: &mut [u8]) -> u64
     0
 }
 
-// The frame of the case at a place, into the area's first 22 bytes.
+// The frame of the case at a place, into the area's first bytes.
 pub fn case_at(s: &[u8], place: u64, area: &mut [u8]) -> u64
     ensures { λ n. ⌜ Shows place (now (s .entry)) (now (area .entry)) n (now (area .exit)) ⌝ }
 {
@@ -95,7 +92,7 @@ pub fn case_at(s: &[u8], place: u64, area: &mut [u8]) -> u64
     match found {
         Found::Refused(v) => sheet::number_of_vacancy(v),
         Found::Held(c) => {
-            if area.len() < FRAME {
+            if area.len() < fields::size_of(c) {
                 return SPACE;
             }
             fields::write(area, c);

@@ -1,4 +1,4 @@
--- Tests 3 to 6, with 12 to 14 in the place of 4: the values of each field, and a heat (document 01, "The case frame", "Refused cases"; request 2).
+-- Tests 3 to 6, with 12 to 14 in the place of 4: the values of each field, and a heat (document 01, "The case frame", "Refused cases"; requests 2 and 11).
 use Prim.Native.Nat.{ℕ}
 use mathlib.Core.Bool.{Bool, not, _&&_, _||_}
 use mathlib.Core.List.{List, [], _∷_, _++_}
@@ -22,6 +22,7 @@ quantityOutside c =
     || outside 0 150000 (c .heat)
     || outside 1 1000000 (c .distance)
     || outside 1 500 (c .body)
+    || outside 5000 11000 (c .air)
 
 -- heat 0, and the substance has no β
 unfoldable pub heatMissing : Case → Bool

@@ -27,7 +27,10 @@ fn quantity_outside(c: Case) -> bool
     let heat = is_outside(0, 150000, c.heat);
     let distance = is_outside(1, 1000000, c.distance);
     let body = is_outside(1, 500, c.body);
-    refusals::any_of(mass, mean, stoichiometric, heat, distance, body)
+    if refusals::any_of(mass, mean, stoichiometric, heat, distance, body) {
+        return true;
+    }
+    is_outside(5000, 11000, c.air)
 }
 
 // Test 6: heat 0, and the substance has none of its own.

@@ -5,8 +5,7 @@ use mathlib.Core.List.{List}
 use Rattle.exact.specs.Formula.{Formula}
 use Rattle.guidance.specs.declared.Case.{Case}
 use Rattle.guidance.specs.Cases as cases
-use Rattle.guidance.specs.Waves.{standardAir}
-use Rattle.guidance.specs.laws.Domain.{standard}
+use Rattle.guidance.specs.AirPressure.{airOf}
 use Rattle.layout.specs.declared.Ends.{Ends}
 use Rattle.frame.specs.declared.Verdict.{Verdict}
 use Rattle.frame.specs.declared.Verdict.the-variants.{Accepted, Refused}
@@ -19,8 +18,8 @@ use Rattle.linked.specs.Codes.{Given, FigureAnswered}
 
 module _ (frame : List ℕ) {v : Verdict} (decided : v ≡ frameVerdict frame answerLength) where
   module _ {c : Case} (accepts : v ≡ Accepted c) where
-    pub taken : cases.Accepted standardAir c × cases.Air standardAir
-    taken = (frame-accepted frame c answerLength (sym decided ∙ accepts) .taken .accepted, standard)
+    pub taken : cases.Accepted (airOf c) c
+    taken = frame-accepted frame c answerLength (sym decided ∙ accepts) .taken .accepted
 
     pub given : {x : Case → Formula} {lower upper : ℕ} {e : Ends} → WaveEnds (x c) e → FigureAnswered x frame lower upper 0 (e .lower) (e .upper)
     given {x} {lower} {upper} {e} ended =

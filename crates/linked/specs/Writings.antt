@@ -1,4 +1,4 @@
--- What the entries for C that write a case promise: the verdict as one number, and every byte of the area as the verdict says (request 9).
+-- What the entries for C that write a case promise: the verdict as one number, and every byte of the area as the verdict says (requests 9 and 11).
 use Prim.Native.Nat.{ℕ}
 use mathlib.Core.Path.{_≡_}
 use mathlib.Core.List.{List}
@@ -11,9 +11,9 @@ pub record WroteCase (text : Case → List ℕ) (due : Verdict) (before : List �
   pub returned : n ≡ code due
   pub area : after ≡ withText text due before
 
--- a case of ten numbers, in the order of the frame
-abbrev pub ofNumbers : (substance state placement surroundings mass mean stoichiometric heat distance body : ℕ) → Case
-ofNumbers substance state placement surroundings mass mean stoichiometric heat distance body =
+-- a case of eleven numbers, in the order of the frame
+abbrev pub ofNumbers : (substance state placement surroundings mass mean stoichiometric heat distance body air : ℕ) → Case
+ofNumbers substance state placement surroundings mass mean stoichiometric heat distance body air =
     record {
       substance = substance;
       state = state;
@@ -25,4 +25,5 @@ ofNumbers substance state placement surroundings mass mean stoichiometric heat d
       heat = heat;
       distance = distance;
       body = body;
+      air = air;
     }

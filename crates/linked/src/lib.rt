@@ -2,10 +2,10 @@
 ghost use lib.ListN.{length};
 ghost use Rattle.frame.specs.Verdicts.{frameVerdict, lineVerdict};
 ghost use Rattle.linked.specs.Codes.{Entered, FigureAnswered};
-ghost use Rattle.linked.specs.Figures.{figureOf};
+ghost use Rattle.linked.specs.Figures.{ownOverpressure, ownImpulse, figureOf};
 ghost use Rattle.blast.specs.WaveEnds.{WaveEnds};
-ghost use Rattle.guidance.specs.Waves.{standardAir, overpressure, impulse};
-ghost use Rattle.guidance.specs.Cases.{Accepted, Air};
+ghost use Rattle.guidance.specs.AirPressure.{airOf};
+ghost use Rattle.guidance.specs.Cases.{Accepted};
 use frame::Verdict;
 use guidance::Case;
 use layout::Ends;
@@ -42,12 +42,13 @@ enum Figure {
 
 // The two ends of a figure of an accepted case, without the work of the other figure.
 fn ends_of(figure: Figure, c: Case) -> Ends
-    requires { ⌜ (Accepted standardAir c) × (Air standardAir) ⌝ }
+    requires { ⌜ Accepted (airOf c) c ⌝ }
     ensures { λ e. ⌜ WaveEnds (figureOf figure c) e ⌝ }
 {
+    let air = guidance::air_of(c);
     match figure {
-        Figure::Overpressure => blast::pressure(c, guidance::STANDARD_AIR),
-        Figure::Impulse => blast::impulse(c, guidance::STANDARD_AIR),
+        Figure::Overpressure => blast::pressure(c, air),
+        Figure::Impulse => blast::impulse(c, air),
     }
 }
 
@@ -70,7 +71,7 @@ fn figure_alone(frame: &[u8], figure: Figure, lower: &mut u64, upper: &mut u64) 
 // The overpressure alone, in whole pascals.
 #[no_mangle]
 pub extern "C" fn yakepuhi_overpressure(frame: &[u8], lower: &mut u64, upper: &mut u64) -> u64
-    ensures { λ n. ⌜ FigureAnswered (overpressure standardAir) (now (frame .entry)) (now (lower .entry)) (now (upper .entry)) n (now (lower .exit)) (now (upper .exit)) ⌝ }
+    ensures { λ n. ⌜ FigureAnswered ownOverpressure (now (frame .entry)) (now (lower .entry)) (now (upper .entry)) n (now (lower .exit)) (now (upper .exit)) ⌝ }
 {
     figure_alone(frame, Figure::Overpressure, lower, upper)
 }
@@ -78,7 +79,7 @@ pub extern "C" fn yakepuhi_overpressure(frame: &[u8], lower: &mut u64, upper: &m
 // The impulse alone, in whole pascal-seconds.
 #[no_mangle]
 pub extern "C" fn yakepuhi_impulse(frame: &[u8], lower: &mut u64, upper: &mut u64) -> u64
-    ensures { λ n. ⌜ FigureAnswered (impulse standardAir) (now (frame .entry)) (now (lower .entry)) (now (upper .entry)) n (now (lower .exit)) (now (upper .exit)) ⌝ }
+    ensures { λ n. ⌜ FigureAnswered ownImpulse (now (frame .entry)) (now (lower .entry)) (now (upper .entry)) n (now (lower .exit)) (now (upper .exit)) ⌝ }
 {
     figure_alone(frame, Figure::Impulse, lower, upper)
 }

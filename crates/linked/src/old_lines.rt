@@ -16,5 +16,5 @@ pub extern "C" fn yakepuhi_old_from_frame(frame: &[u8], area: &mut [u8]) -> u64
     ensures { λ n. ⌜ WentBack (now (frame .entry)) (now (area .entry)) n (now (area .exit)) ⌝ }
 {
     let v = to_old::to_line(frame, area);
-    writable::code_of(v)
+    to_old::code_of(v)
 }

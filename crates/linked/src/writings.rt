@@ -6,7 +6,7 @@ ghost use Rattle.writing.specs.Entries.{fieldsVerdict, frameVerdict, lineVerdic
 ghost use Rattle.linked.specs.Writings.{WroteCase, ofNumbers};
 use guidance::Case;
 
-// The frame of ten numbers.
+// The frame of eleven numbers.
 #[no_mangle]
 pub extern "C" fn yakepuhi_frame_from_fields(
     substance: u64,
@@ -19,9 +19,10 @@ pub extern "C" fn yakepuhi_frame_from_fields(
     heat: u64,
     distance: u64,
     body: u64,
+    air: u64,
     area: &mut [u8],
 ) -> u64
-    ensures { λ n. ⌜ WroteCase frameBytes (fieldsVerdict (ofNumbers substance state placement surroundings mass mean stoichiometric heat distance body) (length (now (area .entry)))) (now (area .entry)) n (now (area .exit)) ⌝ }
+    ensures { λ n. ⌜ WroteCase frameBytes (fieldsVerdict (ofNumbers substance state placement surroundings mass mean stoichiometric heat distance body air) (length (now (area .entry)))) (now (area .entry)) n (now (area .exit)) ⌝ }
 {
     let c = Case {
         substance,
@@ -34,6 +35,7 @@ pub extern "C" fn yakepuhi_frame_from_fields(
         heat,
         distance,
         body,
+        air,
     };
     writable::code_of(writing::from_fields(c, area))
 }

@@ -3,6 +3,7 @@ use mathlib.Core.Bool.{Bool, _&&_, _||_}
 use lib.Dec.{eqb}
 use lib.Ieee.{lt}
 use Rattle.guidance.specs.declared.Case.{Case}
+use Rattle.guidance.specs.AirPressure.{standard}
 use Rattle.doubles.specs.Doubles.{whole, unusable, nearest}
 use Rattle.old_case.specs.declared.OldField.the-variants.{MassKg, MeanG, StoichiometricG, HeatMj, DistanceM, BodyKg}
 use Rattle.old_case.specs.declared.OldCase.{OldCase}
@@ -18,7 +19,7 @@ unusableIn o =
     || unusable (o .distance)
     || unusable (o .body)
 
--- the way in, to whole numbers of any size
+-- the way in, to whole numbers of any size, in the standard air (request 11)
 unfoldable pub caseOf : OldCase → Case
 caseOf o =
     record {
@@ -32,6 +33,7 @@ caseOf o =
       heat = wholeOf (HeatMj (o .heat));
       distance = wholeOf (DistanceM (o .distance));
       body = wholeOf (BodyKg (o .body));
+      air = standard;
     }
 
 -- a positive heat whose whole number is 0

@@ -76,7 +76,7 @@ fn whole_of(f: OldField) -> u64
     }
 }
 
-// The case of whole numbers, which need not fit a frame's fields.
+// The case of whole numbers, which need not fit a frame's fields, in the standard air.
 pub fn case_of(o: OldCase) -> Case
     requires { ⌜ unusableIn o ≡ false ⌝ }
     ensures { λ r. ⌜ r ≡ caseOf o ⌝ }
@@ -92,6 +92,7 @@ pub fn case_of(o: OldCase) -> Case
         heat: whole_of(OldField::HeatMj(o.heat)),
         distance: whole_of(OldField::DistanceM(o.distance)),
         body: whole_of(OldField::BodyKg(o.body)),
+        air: guidance::STANDARD,
     }
 }
 

@@ -99,8 +99,7 @@ fn lung_pressure(pressure: Span, air: u64) -> Span
     requires { ⌜ Lunged pressure air ⌝ }
     ensures { λ r. ⌜ LungPressure pressure air r ⌝ }
 {
-    let p = span::whole(air);
-    let q = span::quo(pressure, p);
+    let q = span::quo_whole(pressure, air, guidance::STANDARD_AIR);
     let t = span::add(coefficients::ONE, q);
     span::quo(coefficients::LUNG_PRESSURE, t)
 }

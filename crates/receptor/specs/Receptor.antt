@@ -18,6 +18,7 @@ moved c d =
       heat = c .heat;
       distance = d;
       body = c .body;
+      air = c .air;
     }
 
 -- the greatest distance up to `most` at which Rx is not greater than 24; 0 if there is none

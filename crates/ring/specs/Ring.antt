@@ -6,7 +6,8 @@ use mathlib.Core.Path.{_≡_}
 use mathlib.Core.List.{List, [], _∷_, _++_}
 use mathlib.Core.Option.{Option, none, some}
 use Rattle.guidance.specs.declared.Case.{Case}
-use Rattle.guidance.specs.Waves.{standardAir, overpressure}
+use Rattle.guidance.specs.AirPressure.{airOf}
+use Rattle.guidance.specs.Waves.{overpressure}
 use Rattle.hexadecimals.specs.Digits.{bytesOf}
 use Rattle.refusals.specs.declared.Fault.{Fault}
 use Rattle.refusals.specs.Order.{Test, _when_, firstOf, held}
@@ -21,7 +22,7 @@ use Rattle.ring.specs.declared.Refusal.the-variants.{Faulty, Threshold, 
 use Rattle.ring.specs.declared.Answer.{Answer}
 use Rattle.ring.specs.declared.Answer.the-variants.{Ring, Refused}
 
--- test 9: a threshold is 1 to 18·P0 Pa, which is 1,823,400 at 101,300
+-- test 9: a threshold is 1 to 18·P0 Pa, which is 1,823,400 at 101,300 (request 11)
 unfoldable pub lastTests : (air t : ℕ) → List (Test Refusal)
 lastTests air t = (Threshold when outside 1 (18 * air) t) ∷ []
 
@@ -80,9 +81,12 @@ abbrev pub Answers : Option Refusal → (air : ℕ) (c : Case) (t : ℕ) → Ans
 Answers (some r) air c t answer = answer ≡ Refused r
 Answers none air c t answer = Fits air c t answer
 
--- the entries
+-- the entries: a case and its own tests, in its own air
+abbrev pub OwnRing : List (Test Fault) → (c : Case) (t : ℕ) → Answer → Type 0
+OwnRing given c t answer = Answers (firstOf (tests given (airOf c) t)) (airOf c) c t answer
+
 abbrev pub FromFrame : (frame : List ℕ) (t : ℕ) → Answer → Type 0
-FromFrame frame t answer = Answers (firstOf (tests (frameTests frame) standardAir t)) standardAir (fieldsOf frame) t answer
+FromFrame frame t answer = OwnRing (frameTests frame) (fieldsOf frame) t answer
 
 abbrev pub FromLine : (line : List ℕ) (t : ℕ) → Answer → Type 0
-FromLine line t answer = Answers (firstOf (tests (lineTests line) standardAir t)) standardAir (fieldsOf (bytesOf line)) t answer
+FromLine line t answer = OwnRing (lineTests line) (fieldsOf (bytesOf line)) t answer

@@ -3,6 +3,7 @@ use Prim.Native.Nat.{ℕ, _+_, _^_, _≤_, _<_}
 use mathlib.Core.Path.{_≡_}
 use mathlib.Core.Bool.{false}
 use Rattle.guidance.specs.declared.Case.{Case}
+use Rattle.guidance.specs.AirPressure.{airOf}
 use Rattle.guidance.specs.Cases.{Air}
 use Rattle.guidance.specs.CloudWords.{Heated}
 use Rattle.guidance.specs.Waves.{overpressure}
@@ -71,7 +72,7 @@ pub record Crossed (air : ℕ) (c : Case) (t far : ℕ) : Type 0 where
 abbrev pub RingFor : (air : ℕ) (c : Case) (t : ℕ) → Answer → Type 0
 RingFor air c t answer = Answers (firstOf (lastTests air t)) air c t answer
 
--- what tests 1 to 6 found stands, else this
-abbrev pub AnswerTo : Checked → (air t : ℕ) → Answer → Type 0
-AnswerTo (Sound c) air t answer = RingFor air c t answer
-AnswerTo (Unsound f) air t answer = answer ≡ Refused (Faulty f)
+-- what tests 1 to 6 found stands, else this, in the case's own air
+abbrev pub AnswerTo : Checked → (t : ℕ) → Answer → Type 0
+AnswerTo (Sound c) t answer = RingFor (airOf c) c t answer
+AnswerTo (Unsound f) t answer = answer ≡ Refused (Faulty f)

@@ -141,12 +141,12 @@ fn ring_for(c: Case, air: u64, threshold: u64) -> Answer
     search(c, air, threshold)
 }
 
-fn answer_to(s: Checked, air: u64, threshold: u64) -> Answer
-    requires { ⌜ (HeatedIfSound s) × (Air air) ⌝ }
-    ensures { λ r. ⌜ AnswerTo s air threshold r ⌝ }
+fn answer_to(s: Checked, threshold: u64) -> Answer
+    requires { ⌜ HeatedIfSound s ⌝ }
+    ensures { λ r. ⌜ AnswerTo s threshold r ⌝ }
 {
     match s {
-        Checked::Sound(c) => ring_for(c, air, threshold),
+        Checked::Sound(c) => ring_for(c, guidance::air_of(c), threshold),
         Checked::Unsound(f) => Answer::Refused(Refusal::Faulty(f)),
     }
 }
@@ -156,7 +156,7 @@ pub fn from_frame(frame: &[u8], threshold: u64) -> Answer
     ensures { λ r. ⌜ FromFrame (now (frame .entry)) threshold r ⌝ }
 {
     let s = frame::check_frame(frame);
-    answer_to(s, guidance::STANDARD_AIR, threshold)
+    answer_to(s, threshold)
 }
 
 // The same for a case given as a line.
@@ -164,5 +164,5 @@ pub fn from_line(line: &[u8], threshold: u64) -> Answer
     ensures { λ r. ⌜ FromLine (now (line .entry)) threshold r ⌝ }
 {
     let s = frame::check_line(line);
-    answer_to(s, guidance::STANDARD_AIR, threshold)
+    answer_to(s, threshold)
 }

@@ -7,8 +7,9 @@ use Rattle.span.specs.Spans.{below}
 use Rattle.guidance.specs.declared.Case.{Case}
 use Rattle.guidance.specs.declared.Cloud.{Cloud}
 use Rattle.guidance.specs.Cases as cases
+use Rattle.guidance.specs.AirPressure.{airOf}
 use Rattle.guidance.specs.Clouds.{deflagrates}
-use Rattle.guidance.specs.Waves.{standardAir, nearField}
+use Rattle.guidance.specs.Waves.{nearField}
 use Rattle.frame.specs.declared.Verdict.{Verdict}
 use Rattle.frame.specs.declared.Verdict.the-variants.{Accepted}
 use Rattle.blast.specs.Promises.{Ready, Rounded}
@@ -34,4 +35,4 @@ pub record Burning (c : Case) (k : Cloud) (air : ℕ) (near : Bool) : Type 0 whe
 
 -- a case that the verdict accepts is one
 abbrev pub Acceptable : Verdict → Type 0
-Acceptable v = (c : Case) → v ≡ Accepted c → cases.Accepted standardAir c
+Acceptable v = (c : Case) → v ≡ Accepted c → cases.Accepted (airOf c) c

@@ -7,9 +7,10 @@ use mathlib.Core.Bool.{Bool, true, false, cond}
 use Rattle.exact.specs.Formula.{Formula}
 use Rattle.exact.specs.Smaller.{IsSmaller}
 use Rattle.guidance.specs.declared.Case.{Case}
+use Rattle.guidance.specs.AirPressure.{airOf}
 use Rattle.guidance.specs.Clouds.{deflagrates}
 use Rattle.guidance.specs.Distances.{nearer, cube034}
-use Rattle.guidance.specs.Waves.{standardAir, nearField, deflagrationPressure, deflagrationImpulse, detonationPressure, detonationImpulse, inPascals, inPascalSeconds}
+use Rattle.guidance.specs.Waves.{nearField, deflagrationPressure, deflagrationImpulse, detonationPressure, detonationImpulse, inPascals, inPascalSeconds}
 use Rattle.frame.specs.declared.Verdict.{Verdict}
 use Rattle.frame.specs.declared.Verdict.the-variants as verdict
 use Rattle.frame.specs.Verdicts.{answerLength, frameVerdict, lineVerdict}
@@ -50,9 +51,9 @@ pub record RulesOf (air : ℕ) (c : Case) (r : Rules) : Type 0 where
   pub pressure : Gave (deflagrates c) air c (inPascals air (deflagrationPressure air c)) (inPascals air (detonationPressure air c)) (r .pressure)
   pub impulse : Gave (deflagrates c) air c (inPascalSeconds air c (deflagrationImpulse air c)) (inPascalSeconds air c (detonationImpulse air c)) (r .impulse)
 
--- by the verdict: the rules of an accepted case, or its refusal
+-- by the verdict: the rules of an accepted case in its own air, or its refusal
 abbrev pub Answers : Verdict → Answer → Type 0
-Answers (verdict.Accepted c) (Named r) = RulesOf standardAir c r
+Answers (verdict.Accepted c) (Named r) = RulesOf (airOf c) c r
 Answers (verdict.Accepted c) (Refused q) = ⊥
 Answers (verdict.Refused q) answer = answer ≡ Refused q
 

@@ -1,7 +1,8 @@
 // Why a figure is what it is: the rule that gave ΔP and the rule that gave I of an accepted case.
 // The near field and 0.34 are told by the exact tests of `guidance`, the smaller of two figures by intervals that lie apart.
 ghost use mathlib.Core.Path.{_≡_};
-ghost use Rattle.guidance.specs.Cases.{Air, Accepted};
+ghost use Rattle.guidance.specs.AirPressure.{airOf};
+ghost use Rattle.guidance.specs.Cases.{Accepted};
 ghost use Rattle.refusals.specs.Faults.{filledTo};
 ghost use Rattle.blast.specs.Promises.{Roundable};
 ghost use Rattle.rules.specs.Words.{number, words};
@@ -123,10 +124,11 @@ fn rules_by_figures(c: Case, k: Cloud, air: u64, near: bool) -> Rules
     Rules { pressure, impulse }
 }
 
-fn rules_of(c: Case, air: u64) -> Rules
-    requires { ⌜ (Accepted air c) × (Air air) ⌝ }
-    ensures { λ r. ⌜ RulesOf air c r ⌝ }
+fn rules_of(c: Case) -> Rules
+    requires { ⌜ Accepted (airOf c) c ⌝ }
+    ensures { λ r. ⌜ RulesOf (airOf c) c r ⌝ }
 {
+    let air = guidance::air_of(c);
     let k = guidance::cloud_of(c);
     let near = guidance::is_near_field(c, k, air);
     if k.range < 2 {
@@ -145,7 +147,7 @@ fn answer_to(v: Verdict) -> Answer
 {
     match v {
         Verdict::Accepted(c) => {
-            let rules = rules_of(c, guidance::STANDARD_AIR);
+            let rules = rules_of(c);
             Answer::Named(rules)
         }
         Verdict::Refused(r) => Answer::Refused(r),

@@ -153,7 +153,7 @@ impl Sheet {
         if last == 64 {
             return self.refused(Refusal::Full);
         }
-        let ends = blast::pressure(c, guidance::STANDARD_AIR);
+        let ends = blast::pressure(c, guidance::air_of(c));
         let upper = ends.upper;
         self.put(last, Held { case: c, upper })
     }

@@ -4,7 +4,7 @@ ghost use Prim.Native.Nat.{_≤_};
 ghost use lib.ListN.{length, replicate};
 ghost use lib.Seq.{sets};
 ghost use Rattle.places.specs.Places.{holds, contents, standsFor};
-ghost use Rattle.sheet_bytes.specs.Packing.{placeBytes, sheetBytes, heldIn, unpacked, size};
+ghost use Rattle.sheet_bytes.specs.Packing.{airWord, airOfWord, placeBytes, sheetBytes, heldIn, unpacked, size};
 use places::Content;
 use places::Held;
 use places::Place;
@@ -26,6 +26,19 @@ fn clear(s: &mut [u8])
     bytes::put_eight(s, 24, 0);
 }
 
+// The air pressure as a place keeps it.
+fn air_word(air: u64) -> u64
+    ensures { λ r. ⌜ r ≡ airWord air ⌝ }
+{
+    if air == guidance::STANDARD { 0 } else { air }
+}
+
+fn air_of_word(n: u64) -> u64
+    ensures { λ r. ⌜ r ≡ airOfWord n ⌝ }
+{
+    if n == 0 { guidance::STANDARD } else { n }
+}
+
 // The 32 bytes of a place.
 fn put_place(s: &mut [u8], p: Place)
     requires { ⌜ length (now s) ≡ 32 ⌝ }
@@ -37,8 +50,10 @@ fn put_place(s: &mut [u8], p: Place)
         Content::Hole => {}
         Content::Taken(h) => {
             bytes::put_one(s, 0, 1);
-            fields::write(&mut s[1..23], h.case);
+            let case = h.case;
+            fields::write_first(&mut s[1..23], case);
             bytes::put_four(s, 23, h.upper);
+            bytes::put_two(s, 27, air_word(case.air));
         }
     }
 }
@@ -53,7 +68,8 @@ fn place_of(s: &[u8]) -> Place
             content: Content::Hole,
         };
     }
-    let case = fields::read(&s[1..23]);
+    let mut case = fields::read(&s[1..23]);
+    case.air = air_of_word(bytes::two_at(s, 27));
     let upper = bytes::four_at(s, 23);
     Place {
         content: Content::Taken(Held { case, upper }),

@@ -112,6 +112,16 @@ pub record Quotient (a b r : Span) : Type 0 where
   pub least : a .e + 993 ≤ r .e + b .e
   pub most : r .e + b .e ≤ a .e + 996
 
+-- by a whole number, as an interval of it
+pub record DivisibleBy (a : Span) (n : ℕ) : Type 0 where
+  pub above : 0 < n
+  pub divisible : (b : Span) → Whole n b → Divisible a b
+
+pub record WholeQuotient (a : Span) (n : ℕ) (r : Span) : Type 0 where
+  pub divisor : Span
+  pub whole : Whole n divisor
+  pub quotient : Quotient a divisor r
+
 -- Sums
 
 pub record Summands (a b : Span) : Type 0 where

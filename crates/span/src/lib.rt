@@ -2,7 +2,7 @@
 // All operations are exact u64 arithmetic followed by `cut`, the one place that rounds.
 ghost use mathlib.Core.Path.{_≡_};
 ghost use Prim.Native.Nat.{_+_, _*_, _-_, _^_, _≤_, _<_};
-ghost use Rattle.span.specs.Spans.{Normal, Whole, FractionOf, Factors, Product, Divisible, Quotient, Summands, Sum, Floor, Ceiling, Subtractable, Difference, Smaller, below};
+ghost use Rattle.span.specs.Spans.{Normal, Whole, FractionOf, Factors, Product, Divisible, DivisibleBy, Quotient, WholeQuotient, Summands, Sum, Floor, Ceiling, Subtractable, Difference, Smaller, below};
 ghost use Rattle.span.specs.Rounding.{Cuttable, Roundable, Rounded, Aligned, ShiftedDown, ShiftedUp, Ratio, Compared};
 
 // The numbers from lo·2^e / 2^1024 to hi·2^e / 2^1024.
@@ -80,6 +80,19 @@ pub fn quo(a: Span, b: Span) -> Span
     let h = (a.hi * 0x1_0000_0000 + (b.lo - 1)) / b.lo;
     let e = a.e + 992 - b.e;
     norm(l, h, e)
+}
+
+// The quotient by a whole number above 0 that mostly is `usual`: where a caller writes that as a constant, nothing is divided by it at run time.
+pub fn quo_whole(a: Span, n: u64, usual: u64) -> Span
+    requires { ⌜ DivisibleBy a n ⌝ }
+    ensures { λ r. ⌜ WholeQuotient a n r ⌝ }
+{
+    if n == usual {
+        let b = whole(usual);
+        return quo(a, b);
+    }
+    let d = whole(n);
+    quo(a, d)
 }
 
 // m / 2^d, rounded downward, for every d.

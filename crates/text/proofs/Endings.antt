@@ -14,7 +14,7 @@ take-cap zero p q = refl
 take-cap (suc n) [] q = refl
 take-cap (suc n) (x ∷ p) q = ap (λ (r : List ℕ). x ∷ r) (take-cap n p q)
 
-printed-capped : {k : ℕ} (line : List ℕ) {before after : List ℕ} {r : ℕ} → Printed k (take 45 line) before after r → Printed k line before after r
+printed-capped : {k : ℕ} (line : List ℕ) {before after : List ℕ} {r : ℕ} → Printed k (take 49 line) before after r → Printed k line before after r
 printed-capped line p = record { text = p .text; correct = record-capped line (p .correct); puts = p .puts }
 
 pub ends-held
@@ -24,7 +24,7 @@ pub ends-held
 ends-held w = record { printed = λ p e. rw (append-nil p) (printed-capped p (rw e at w)) }
 
 -- nothing held is nothing before
-pub none-before : (p : List ℕ) → [] ≡ take 45 p → p ≡ []
+pub none-before : (p : List ℕ) → [] ≡ take 49 p → p ≡ []
 none-before [] e = refl
 none-before (x ∷ p) e = cc
 
@@ -41,7 +41,7 @@ ends-later {s} {t} {chars} h w =
     record {
       printed =
           λ p e.
-          let whole : take (t .held) (t .line) ≡ take 45 (p ++ chars)
-          = h .line ∙ ap (λ (l : List ℕ). take 45 (l ++ chars)) e ∙ take-cap 45 p chars in
+          let whole : take (t .held) (t .line) ≡ take 49 (p ++ chars)
+          = h .line ∙ ap (λ (l : List ℕ). take 49 (l ++ chars)) e ∙ take-cap 49 p chars in
           rw (h .lines, append-nil (p ++ chars)) at (w .printed (p ++ chars) whole);
     }

@@ -61,14 +61,14 @@ pub hold-last
     : {start chars : List ℕ} {from n : ℕ} {line : List ℕ} {i : ℕ} →
     Holding start chars from n line i →
     n ≤ i →
-    from ≤ 45 →
-    n ≡ 45 - from - (45 - from - length chars) →
-    take (from + n) line ≡ take 45 (take from start ++ chars)
+    from ≤ 49 →
+    n ≡ 49 - from - (49 - from - length chars) →
+    take (from + n) line ≡ take 49 (take from start ++ chars)
 hold-last {start} {chars} {from} {n} {line} {i} h l most e =
     let all : n ≡ i = omega arith in
     let size : length (take from start) ≡ from = length-take-le from start (omega arith) in
-    let whole : length (take from start) + (45 - from) ≡ 45 = omega arith in
-    let most-held : take i chars ≡ take (45 - from) chars = rw (← all, e) (least-take (45 - from) chars) in
-    let cut : take 45 (take from start ++ chars) ≡ take from start ++ take (45 - from) chars
-    = rw whole at (take-append-add (take from start) chars (45 - from)) in
+    let whole : length (take from start) + (49 - from) ≡ 49 = omega arith in
+    let most-held : take i chars ≡ take (49 - from) chars = rw (← all, e) (least-take (49 - from) chars) in
+    let cut : take 49 (take from start ++ chars) ≡ take from start ++ take (49 - from) chars
+    = rw whole at (take-append-add (take from start) chars (49 - from)) in
     rw (all, h .held) (ap (λ (t : List ℕ). take from start ++ t) most-held ∙ sym cut)

@@ -34,7 +34,7 @@ stands-held {p = p} {chars} h st =
     record {
       sound = h .sound;
       counted = h .lines ∙ st .counted;
-      held = h .line ∙ ap (λ (l : List ℕ). take 45 (l ++ chars)) (st .held) ∙ take-cap 45 p chars;
+      held = h .line ∙ ap (λ (l : List ℕ). take 49 (l ++ chars)) (st .held) ∙ take-cap 49 p chars;
     }
 
 -- an end that is not the part's is an LF of it

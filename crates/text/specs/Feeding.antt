@@ -21,11 +21,11 @@ endOf (b ∷ s) = cond (eqb b lf) 0 (suc (endOf s))
 pub record Held (s : Stream) (chars : List ℕ) (r : Stream) : Type 0 where
   pub sound : Sound r
   pub lines : r .lines ≡ s .lines
-  pub line : take (r .held) (r .line) ≡ take 45 (take (s .held) (s .line) ++ chars)
+  pub line : take (r .held) (r .line) ≡ take 49 (take (s .held) (s .line) ++ chars)
 
 -- the record of the line that chars end is written
 pub record Ends (s : Stream) (chars before after : List ℕ) (r : ℕ) : Type 0 where
-  pub printed : (p : List ℕ) → take (s .held) (s .line) ≡ take 45 p → Printed (s .lines + 1) (p ++ chars) before after r
+  pub printed : (p : List ℕ) → take (s .held) (s .line) ≡ take 49 p → Printed (s .lines + 1) (p ++ chars) before after r
 
 -- bytes are taken, of a part that has any at least one
 pub record Steps (s : Stream) (part before : List ℕ) (r : Fed) (after : List ℕ) : Type 0 where

@@ -7,16 +7,16 @@ use Rattle.text.specs.declared.Stream.{Stream}
 use Rattle.text.specs.Lines.{ended, left, lastLine}
 use Rattle.text.specs.Records.{Text}
 
--- at most 45 characters are held, in an array of 45
+-- at most 49 characters are held, in an array of 49
 pub record Sound (s : Stream) : Type 0 where
-  pub size : length (s .line) ≡ 45
-  pub within : s .held ≤ 45
+  pub size : length (s .line) ≡ 49
+  pub within : s .held ≤ 49
 
 -- so many lines have ended, and since then came the characters p
 pub record Stands (s : Stream) (lines : ℕ) (p : List ℕ) : Type 0 where
   pub sound : Sound s
   pub counted : s .lines ≡ lines
-  pub held : take (s .held) (s .line) ≡ take 45 p
+  pub held : take (s .held) (s .line) ≡ take 49 p
 
 -- t is s after these bytes of the input
 pub record Reached (s : Stream) (bytes : List ℕ) (t : Stream) : Type 0 where

@@ -13,12 +13,12 @@ use lines::hold;
 use lines::line_end;
 use records::put_record;
 
-// An input so far: how many lines have ended, and of the characters since then the first 45 and their number up to 45. A line of
-// more than 44 characters is refused for its length, whatever they are.
+// An input so far: how many lines have ended, and of the characters since then the first 49 and their number up to 49. A line of
+// more than 48 characters is refused for its length, whatever they are.
 pub struct Stream {
     pub lines: u64,
     pub held: usize,
-    pub line: [u8; 45],
+    pub line: [u8; 49],
 }
 
 // A stream after a part of the input: how many bytes of the part it has used, and how many it has written.
@@ -35,7 +35,7 @@ pub fn start() -> Stream
     Stream {
         lines: 0,
         held: 0,
-        line: [0; 45],
+        line: [0; 49],
     }
 }
 

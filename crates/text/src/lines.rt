@@ -25,14 +25,14 @@ fn least(a: usize, b: usize) -> usize
     if a < b { a } else { b }
 }
 
-// More characters of the line, of which those past the 45th are let go.
+// More characters of the line, of which those past the 49th are let go.
 pub fn hold(s: Stream, chars: &[u8]) -> Stream
     requires { ⌜ Sound s ⌝ }
     ensures { λ r. ⌜ Held s (now (chars .entry)) r ⌝ }
 {
     let from = s.held;
     let mut line = s.line;
-    let n = least(45 - from, chars.len());
+    let n = least(49 - from, chars.len());
     let mut i = 0;
     while i < n {
         line[from + i] = chars[i];

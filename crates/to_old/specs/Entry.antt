@@ -6,10 +6,10 @@ use lib.ListN.{length}
 use lib.Seq.{sets}
 use Rattle.guidance.specs.declared.Case.{Case}
 use Rattle.hexadecimals.specs.Written.{digitsOf}
-use Rattle.writable.specs.declared.Verdict.{Verdict}
-use Rattle.writable.specs.declared.Verdict.the-variants.{Accepted, Refused}
 use Rattle.old_case.specs.Cases.{oldCaseOf}
 use Rattle.old_bytes.specs.Bytes.{oldBytes}
+use Rattle.to_old.specs.declared.Verdict.{Verdict}
+use Rattle.to_old.specs.declared.Verdict.the-variants.{Accepted, Refused}
 use Rattle.to_old.specs.Tests.{frameVerdict}
 
 -- a case's 116 upper-case digits

@@ -1,3 +1,4 @@
+pub mod Refusals
 pub mod Tests
 pub mod Entry
 pub mod Steps

@@ -17,5 +17,10 @@ abbrev pub placed : Checked → (needed : Case → ℕ) (room : ℕ) → Verdict
 placed (Sound c) needed room = cond (ltb room (needed c)) (Refused Space) (Accepted c)
 placed (Unsound f) needed room = Refused (Faulty f)
 
+-- the bytes that are needed for the text of a case which passed its own tests; a fault needs none
+abbrev pub neededFor : (text : Case → List ℕ) → Checked → ℕ
+neededFor text (Sound c) = length (text c)
+neededFor text (Unsound f) = 0
+
 abbrev pub Written : (text : Case → List ℕ) (s : Checked) (before : List ℕ) (v : Verdict) (after : List ℕ) → Type 0
 Written text s before = Writes text (placed s (λ (c : Case). length (text c)) (length before)) before

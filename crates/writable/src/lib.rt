@@ -3,13 +3,10 @@ ghost use mathlib.Core.Path.{_≡_};
 ghost use Rattle.refusals.specs.Faults.{filled};
 ghost use Rattle.writable.specs.Refusals.{number, code, word};
 ghost use Rattle.fields.specs.Bytes.{frameBytes};
-ghost use Rattle.writable.specs.Steps.{placed, Written};
+ghost use Rattle.writable.specs.Steps.{placed, neededFor, Written};
 use guidance::Case;
 use limits::Checked;
 use refusals::Fault;
-
-// The bytes of a case frame.
-const FRAME: usize = 22;
 
 pub enum Refusal {
     Faulty(Fault),
@@ -67,11 +64,21 @@ pub fn place(s: Checked, needed: usize, room: usize) -> Verdict
     }
 }
 
-// The frame of a case that passed its own tests, into the area's first 22 bytes.
+// The bytes of the frame of a case that passed its own tests.
+fn frame_size(s: Checked) -> usize
+    ensures { λ n. ⌜ n ≡ neededFor frameBytes s ⌝ }
+{
+    match s {
+        Checked::Sound(c) => fields::size_of(c),
+        Checked::Unsound(_) => 0,
+    }
+}
+
+// The frame of a case that passed its own tests, into the area's first bytes.
 pub fn write_frame(s: Checked, area: &mut [u8]) -> Verdict
     ensures { λ v. ⌜ Written frameBytes s (now (area .entry)) v (now (area .exit)) ⌝ }
 {
-    let v = place(s, FRAME, area.len());
+    let v = place(s, frame_size(s), area.len());
     match v {
         Verdict::Accepted(c) => {
             fields::write(area, c);

@@ -1,4 +1,4 @@
--- What holds of frames from fields and of spellings (request 9).
+-- What holds of frames from fields and of spellings (requests 9 and 11).
 use Prim.Native.Nat.{ℕ, _≤_}
 use mathlib.Core.Path.{_≡_}
 use mathlib.Core.Logic.{_↔_}
@@ -6,6 +6,7 @@ use mathlib.Core.List.{List}
 use mathlib.Core.Option.{none}
 use lib.ListN.{length, take}
 use Rattle.guidance.specs.declared.Case.{Case}
+use Rattle.guidance.specs.AirPressure.{standard}
 use Rattle.hexadecimals.specs.Digits.{bytesOf}
 use Rattle.refusals.specs.Order.{firstOf}
 use Rattle.fields.specs.Bytes.{fieldsOf, frameBytes}
@@ -27,7 +28,9 @@ pub record FrameOf (c : Case) (frame : List ℕ) : Type 0 where
   pub fields : fieldsOf frame ≡ c
 
 pub record OneSpelling : Type 0 where
-  pub lengths : (c : Case) → (length (frameBytes c) ≡ 22) × (length (spelling c) ≡ 44)
+  -- 22 bytes and 44 characters in the standard air, 24 and 48 in another
+  pub standard-lengths : (c : Case) → c .air ≡ standard → (length (frameBytes c) ≡ 22) × (length (spelling c) ≡ 44)
+  pub other-lengths : (c : Case) → (c .air ≡ standard → ⊥) → (length (frameBytes c) ≡ 24) × (length (spelling c) ≡ 48)
   -- reading what was written from fields gives the fields
   pub frame-written : (c d : Case) (before after : List ℕ) → FromFields c before (Accepted d) after → (d ≡ c) × FrameOf c (take (length (frameBytes c)) after)
   -- what is written of a frame or a line is the spelling of its case

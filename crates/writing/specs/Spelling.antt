@@ -1,4 +1,4 @@
--- The one spelling of a case: its frame in upper-case digits, with heat 0 for a given heat that equals the table's (request 9).
+-- The one spelling of a case: its frame in upper-case digits, with heat 0 for a given heat that equals the table's (requests 9 and 11).
 use Prim.Native.Nat.{ℕ}
 use mathlib.Core.Path.{_≡_}
 use mathlib.Core.Bool.{cond}
@@ -27,6 +27,7 @@ asSpelled c =
       heat = spelledHeat (c .substance) (c .heat);
       distance = c .distance;
       body = c .body;
+      air = c .air;
     }
 
 unfoldable pub spelling : Case → List ℕ
@@ -44,3 +45,4 @@ pub record Agree (c d : Case) : Type 0 where
   pub heat : heatOf (c .substance) (c .heat) ≡ heatOf (d .substance) (d .heat)
   pub distance : c .distance ≡ d .distance
   pub body : c .body ≡ d .body
+  pub air : c .air ≡ d .air

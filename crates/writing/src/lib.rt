@@ -3,15 +3,12 @@ ghost use mathlib.Core.Path.{_≡_};
 ghost use Prim.Native.Nat.{_≤_};
 ghost use lib.ListN.{length};
 ghost use lib.Seq.{sets};
-ghost use Rattle.writable.specs.Steps.{Written};
+ghost use Rattle.writable.specs.Steps.{neededFor, Written};
 ghost use Rattle.writing.specs.Spelling.{asSpelled, spelling};
 ghost use Rattle.writing.specs.Entries.{FromFields, SpellsFrame, SpellsLine};
 use guidance::Case;
 use limits::Checked;
 use writable::Verdict;
-
-// The characters of a line.
-const LINE: usize = 44;
 
 // Without a heat of its own if the given one is the table's.
 fn as_spelled(c: Case) -> Case
@@ -26,21 +23,33 @@ fn as_spelled(c: Case) -> Case
     }
 }
 
-// The spelling of a case, into the area's first 44 bytes.
+// The spelling of a case, into the area's first bytes.
 fn put_spelling(area: &mut [u8], c: Case)
-    requires { ⌜ 44 ≤ length (now area) ⌝ }
+    requires { ⌜ length (spelling c) ≤ length (now area) ⌝ }
     ensures { λ _. ⌜ now (area .exit) ≡ sets (now (area .entry)) 0 (spelling c) ⌝ }
 {
-    let mut frame = [0u8; 22];
-    fields::write(&mut frame, as_spelled(c));
-    hexadecimals::write(&frame, area);
+    let spelled = as_spelled(c);
+    let n = fields::size_of(spelled);
+    let mut frame = [0u8; 24];
+    fields::write(&mut frame, spelled);
+    hexadecimals::write(&frame[..n], area);
+}
+
+// The characters of the spelling of a case that passed its own tests.
+fn spelling_size(s: Checked) -> usize
+    ensures { λ n. ⌜ n ≡ neededFor spelling s ⌝ }
+{
+    match s {
+        Checked::Sound(c) => 2 * fields::size_of(c),
+        Checked::Unsound(_) => 0,
+    }
 }
 
 // The spelling of a case that passed its own tests.
 fn write_spelling(s: Checked, area: &mut [u8]) -> Verdict
     ensures { λ v. ⌜ Written spelling s (now (area .entry)) v (now (area .exit)) ⌝ }
 {
-    let v = writable::place(s, LINE, area.len());
+    let v = writable::place(s, spelling_size(s), area.len());
     match v {
         Verdict::Accepted(c) => {
             put_spelling(area, c);
@@ -50,21 +59,21 @@ fn write_spelling(s: Checked, area: &mut [u8]) -> Verdict
     }
 }
 
-// A frame from its fields, whatever their numbers, into the area's first 22 bytes.
+// A frame from its fields, whatever their numbers, into the area's first bytes.
 pub fn from_fields(c: Case, area: &mut [u8]) -> Verdict
     ensures { λ v. ⌜ FromFields c (now (area .entry)) v (now (area .exit)) ⌝ }
 {
     writable::write_frame(limits::check(c), area)
 }
 
-// The spelling of a case given as a frame's bytes, into the area's first 44 bytes.
+// The spelling of a case given as a frame's bytes, into the area's first bytes.
 pub fn spell_frame(frame: &[u8], area: &mut [u8]) -> Verdict
     ensures { λ v. ⌜ SpellsFrame (now (frame .entry)) (now (area .entry)) v (now (area .exit)) ⌝ }
 {
     write_spelling(frame::check_frame(frame), area)
 }
 
-// The spelling of a case given as a line, into the area's first 44 bytes.
+// The spelling of a case given as a line, into the area's first bytes.
 pub fn spell_line(line: &[u8], area: &mut [u8]) -> Verdict
     ensures { λ v. ⌜ SpellsLine (now (line .entry)) (now (area .entry)) v (now (area .exit)) ⌝ }
 {

@@ -14,14 +14,15 @@ use Rattle.damage.specs.Damage.{damage}
 use Rattle.damage.specs.laws.Readings.{Neighbours, neighbours}
 use Rattle.frame.specs.declared.Verdict.{Verdict}
 use Rattle.hexadecimals.specs.Digits.{allDigits, bytesOf}
+use Rattle.frame.specs.Tests.{either}
 use Rattle.frame.specs.laws.Verdicts.{line-frame}
 use Rattle.layout.specs.declared.Probit.{Probit}
 use Rattle.layout.specs.declared.Damages.{Damages}
 use Rattle.exact.specs.Between.{wholeZ}
 use Rattle.answer.specs.Answer.{ProbitEnds, reading, readings, Answer, FromFrame, FromLine}
 
--- what is promised of a line of 44 digits is what is promised of its bytes
-pub line-as-frame : (line before : List ℕ) (v : Verdict) (after : List ℕ) → length line ≡ 44 → allDigits line ≡ true
+-- what is promised of a line of 44 or 48 digits is what is promised of its bytes
+pub line-as-frame : (line before : List ℕ) (v : Verdict) (after : List ℕ) → either 44 48 line ≡ true → allDigits line ≡ true
     → FromLine line before v after → FromFrame (bytesOf line) before v after
 line-as-frame line before v after h d f =
     record { verdict = f .verdict ∙ line-frame line (length before) h d; area = f .area }

@@ -8,7 +8,8 @@ use Rattle.fields.proofs.read.Tie as tie
 returns : tie.Need-returns
 unfolding fieldsOf
 returns c =
-    let heat = c .before .before in
+    let body = c .before in
+    let heat = body .before .before in
     let mean = heat .before .before in
     let surroundings = mean .before .before in
     let state = surroundings .before .before in
@@ -21,8 +22,9 @@ returns c =
       mean .two-at .ensures .0,
       heat .before .two-at2 .ensures .0,
       heat .four-at2 .ensures .0,
-      c .before .four-at3 .ensures .0,
-      c .two-at3 .ensures .0,
+      body .before .four-at3 .ensures .0,
+      body .two-at3 .ensures .0,
+      c .air-in .ensures,
     )
     refl
 
@@ -30,6 +32,7 @@ pub read-spec : {M : Type 1} → statement M
 read-spec =
     tie.close
     (tie.spec
+    (λ c κs. search needs)
     (λ c κs. search needs)
     (λ c κs. search needs)
     (λ c κs. search needs)

@@ -1,11 +1,13 @@
--- Lines and frames and their verdicts, by computation: document 01's three lines, the propane line in either letter case, and several faults at once. Assumes nothing.
+-- Lines and frames and their verdicts, by computation: document 01's three lines, the propane line in either letter case and in several airs, and several faults at once.
+-- Assumes nothing.
 use Prim.Native.Nat.{ℕ}
 use mathlib.Core.Path.{_≡_, refl}
-use mathlib.Core.List.{List, [], _∷_}
+use mathlib.Core.List.{List, [], _∷_, _++_}
 use native.Mathlib.Decide.{decLe}
 use lib.ListN.{replicate}
 use Rattle.exact.specs.Fraction.{whole, _⊗_, power}
 use Rattle.guidance.specs.declared.Case.{Case}
+use Rattle.guidance.specs.AirPressure.{standard, inAir}
 use Rattle.guidance.specs.Substances.{betas, betaOf, classOf, heatOf}
 use Rattle.guidance.specs.Ranges.{ranges, rangeAt}
 use Rattle.guidance.specs.Clouds.{rangeOf, groundFactor, leanBy, leanFactor, aerosolFactor, energy}
@@ -13,7 +15,7 @@ use Rattle.guidance.specs.Distances.{less, metres, cubed, farther, cube24}
 use Rattle.refusals.specs.declared.Fault.the-variants.{Length, Digit, State, Placement, Surroundings, Quantity, Heat}
 use Rattle.frame.specs.declared.Refusal.the-variants.{Faulty}
 use Rattle.frame.specs.declared.Verdict.the-variants.{Accepted, Refused}
-use Rattle.fields.specs.Bytes.{fieldsOf}
+use Rattle.fields.specs.Bytes.{airIn, fieldsOf}
 use Rattle.hexadecimals.specs.Digits.{digitOf, allDigits, bytesOf}
 use Rattle.refusals.specs.Order.{firstOf, held}
 use Rattle.limits.specs.Tests.{quantityOutside, heatMissing, valueTests, fieldTests}
@@ -66,7 +68,15 @@ propane =
       heat = 46400;
       distance = 10000;
       body = 70;
+      air = standard;
     }
+
+-- the line with more characters behind it, and the case in another air
+abbrev pub longer : List ℕ → List ℕ
+longer more = propaneLine ++ more
+
+abbrev pub propaneIn : ℕ → Case
+propaneIn air = inAir propane air
 
 -- three settings, and a distance of 0
 abbrev pub settings : (state placement surroundings : ℕ) → List ℕ
@@ -80,6 +90,14 @@ pub record Examples : Type 0 where
   pub third-line : lineVerdict thirdLine 77 ≡ Refused (Faulty Heat)
   pub propane-line : lineVerdict propaneLine 77 ≡ Accepted propane
   pub propane-small : lineVerdict propaneSmall 77 ≡ Accepted propane
+  -- 1F40: 80,000 Pa; 2792: 101,300 Pa written out; the ends of the air pressure's values, and past them; 46 characters (request 11)
+  pub mountain-line : lineVerdict (longer (49 ∷ 70 ∷ 52 ∷ 48 ∷ [])) 77 ≡ Accepted (propaneIn 8000)
+  pub standard-written : lineVerdict (longer (50 ∷ 55 ∷ 57 ∷ 50 ∷ [])) 77 ≡ Accepted propane
+  pub thinnest : lineVerdict (longer (49 ∷ 51 ∷ 56 ∷ 56 ∷ [])) 77 ≡ Accepted (propaneIn 5000)
+  pub too-thin : lineVerdict (longer (49 ∷ 51 ∷ 56 ∷ 55 ∷ [])) 77 ≡ Refused (Faulty Quantity)
+  pub densest : lineVerdict (longer (50 ∷ 65 ∷ 70 ∷ 56 ∷ [])) 77 ≡ Accepted (propaneIn 11000)
+  pub too-dense : lineVerdict (longer (50 ∷ 65 ∷ 70 ∷ 57 ∷ [])) 77 ≡ Refused (Faulty Quantity)
+  pub characters-46 : lineVerdict (longer (49 ∷ 70 ∷ [])) 77 ≡ Refused (Faulty Length)
   pub placement-line : lineVerdict placementLine 77 ≡ Refused (Faulty Placement)
   -- the first wrong byte in the frame's order, then the distance
   pub state-first : frameVerdict (settings 2 2 5) 77 ≡ Refused (Faulty State)
@@ -88,7 +106,7 @@ pub record Examples : Type 0 where
   pub quantity-after : frameVerdict (settings 1 1 4) 77 ≡ Refused (Faulty Quantity)
 
 pub examples : Examples
-unfolding frameVerdict lineVerdict firstOf held frameTests lineTests fieldTests valueTests lastTests quantityOutside heatMissing fieldsOf digitOf allDigits bytesOf farther less cubed metres cube24 power whole _⊗_ energy groundFactor leanFactor leanBy decLe aerosolFactor heatOf betas betaOf rangeOf rangeAt ranges classOf
+unfolding frameVerdict lineVerdict firstOf held frameTests lineTests fieldTests valueTests lastTests quantityOutside heatMissing airIn fieldsOf inAir digitOf allDigits bytesOf farther less cubed metres cube24 power whole _⊗_ energy groundFactor leanFactor leanBy decLe aerosolFactor heatOf betas betaOf rangeOf rangeAt ranges classOf
 examples =
     record {
       empty-line = refl;
@@ -96,6 +114,13 @@ examples =
       third-line = refl;
       propane-line = refl;
       propane-small = refl;
+      mountain-line = refl;
+      standard-written = refl;
+      thinnest = refl;
+      too-thin = refl;
+      densest = refl;
+      too-dense = refl;
+      characters-46 = refl;
       placement-line = refl;
       state-first = refl;
       placement-next = refl;

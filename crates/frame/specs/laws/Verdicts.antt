@@ -5,13 +5,12 @@ use mathlib.Core.Bool.{true, false}
 use mathlib.Core.List.{List, _++_}
 use mathlib.Core.Option.{Option, none, some}
 use native.Mathlib.Omega.{arith}
-use lib.ListN.{length}
 use borrow.Author.Tests.{ne-eqb, ltb-false, le-ltb}
 use Rattle.guidance.specs.declared.Case.{Case}
 use Rattle.guidance.specs.Cases as cases
 use Rattle.guidance.specs.laws.Domain.{accepted}
 use Rattle.guidance.specs.CloudWords.{Heated}
-use Rattle.guidance.specs.Waves.{standardAir}
+use Rattle.guidance.specs.AirPressure.{airOf}
 use Rattle.refusals.specs.declared.Fault.{Fault}
 use Rattle.refusals.specs.declared.Fault.the-variants.{Length, Digit, Heat}
 use Rattle.frame.specs.declared.Refusal.{Refusal}
@@ -23,7 +22,7 @@ use Rattle.hexadecimals.specs.Digits.{allDigits, bytesOf}
 use Rattle.refusals.specs.Order.{Test, firstOf, held}
 use Rattle.limits.specs.Tests.{heatMissing, valueTests, fieldTests}
 use Rattle.limits.specs.Checks.{checkedBy}
-use Rattle.frame.specs.Tests.{frameTests, lineTests}
+use Rattle.frame.specs.Tests.{either, frameTests, lineTests}
 use Rattle.frame.specs.Verdicts.{answerLength, lastTests, verdictBy, frameVerdict, lineVerdict}
 use Rattle.frame.specs.Checks.{frameChecked, lineChecked, judged}
 use Rattle.refusals.specs.laws.Order.{orElse, first-held, same-held, found-held, neither-found, passed, applies, absent}
@@ -47,14 +46,14 @@ pub line-judged : (line : List ℕ) (room : ℕ) → lineVerdict line room ≡ j
 unfolding lineVerdict lineChecked
 line-judged line room = judged-by (lineTests line) (fieldsOf (bytesOf line)) room
 
-pub line-length : (line : List ℕ) (room : ℕ) → (length line ≡ 44 → ⊥) → lineVerdict line room ≡ Refused (Faulty Length)
+pub line-length : (line : List ℕ) (room : ℕ) → either 44 48 line ≡ false → lineVerdict line room ≡ Refused (Faulty Length)
 unfolding lineVerdict
 line-length line room h =
     let d = fieldsOf (bytesOf line) in
     ap (λ (o : Option Refusal). verdictBy o d) (found-held Faulty (lineTests line) Length (lastTests d room) (checks.line-length line h))
 
--- a line of 44 digits is judged as the frame that it spells
-pub line-frame : (line : List ℕ) (room : ℕ) → length line ≡ 44 → allDigits line ≡ true → lineVerdict line room ≡ frameVerdict (bytesOf line) room
+-- a line of 44 or 48 digits is judged as the frame that it spells
+pub line-frame : (line : List ℕ) (room : ℕ) → either 44 48 line ≡ true → allDigits line ≡ true → lineVerdict line room ≡ frameVerdict (bytesOf line) room
 unfolding lineVerdict frameVerdict
 line-frame line room h d =
     let c = fieldsOf (bytesOf line) in
@@ -63,7 +62,7 @@ line-frame line room h d =
 -- what is known where a case d is given, c comes back accepted, and there is room
 pub record Taken (d c : Case) (room : ℕ) : Type 0 where
   pub same : c ≡ d
-  pub accepted : cases.Accepted standardAir c
+  pub accepted : cases.Accepted (airOf c) c
   pub enough : answerLength ≤ room
 
 accepted-by : (o : Option Refusal) (d c : Case) → verdictBy o d ≡ Accepted c → (o ≡ none) × (c ≡ d)
@@ -90,7 +89,7 @@ taken-by d c room w h same =
     record { same = same; accepted = rw same (accepted w (p .0)); enough = ltb-false room answerLength (p .1 .0) }
 
 pub record FrameTaken (frame : List ℕ) (c : Case) (room : ℕ) : Type 0 where
-  pub size : length frame ≡ 22
+  pub size : either 22 24 frame ≡ true
   pub taken : Taken (fieldsOf frame) c room
 
 pub frame-accepted : (frame : List ℕ) (c : Case) (room : ℕ) → frameVerdict frame room ≡ Accepted c → FrameTaken frame c room
@@ -101,7 +100,7 @@ frame-accepted frame c room h =
     record { size = p .0; taken = taken-by (fieldsOf frame) c room (p .1) (k .last) (k .same) }
 
 pub record LineTaken (line : List ℕ) (c : Case) (room : ℕ) : Type 0 where
-  pub size : length line ≡ 44
+  pub size : either 44 48 line ≡ true
   pub digits : allDigits line ≡ true
   pub taken : Taken (fieldsOf (bytesOf line)) c room
 

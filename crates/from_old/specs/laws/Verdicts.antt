@@ -11,7 +11,7 @@ use Rattle.refusals.specs.Order.{Test, _when_, firstOf, held}
 use Rattle.refusals.specs.laws.Order.{orElse, first-append}
 use Rattle.hexadecimals.specs.Digits.{bytesOf}
 use Rattle.fields.specs.Bytes.{frameBytes}
-use Rattle.fields.specs.laws.Back.{frame-length}
+use Rattle.fields.specs.laws.Back.{standard-length}
 use Rattle.limits.specs.declared.Checked.{Checked}
 use Rattle.writable.specs.declared.Refusal as unwritten
 use Rattle.writable.specs.declared.Verdict as writable
@@ -20,9 +20,10 @@ use Rattle.writable.specs.Verdicts as tests
 use Rattle.writable.specs.Writing.{withText}
 use Rattle.writable.specs.Steps.{placed, Written}
 use Rattle.writable.specs.laws.Verdicts.{space-last, accepted, accepts}
-use Rattle.writable.specs.laws.Writing.{by-length}
+use Rattle.writable.specs.laws.Writing.{needed-alike}
 use Rattle.old_case.specs.declared.OldCase.{OldCase}
 use Rattle.old_case.specs.Cases.{caseOf}
+use Rattle.old_case.specs.laws.Trip.{in-standard}
 use Rattle.old_bytes.specs.Bytes.{oldOf}
 use Rattle.from_old.specs.declared.Refusal.{Refusal}
 use Rattle.from_old.specs.declared.Refusal.the-variants.{Unwritten}
@@ -57,7 +58,7 @@ entered {r} {o} {s} {w} {v} {before} e f x h =
     record {
       verdict =
           h
-          ∙ ap heldBy (x .verdict ∙ sym (by-length s 22 room frameBytes frame-length) ∙ ap (λ (q : Checked). placed q (λ (c : Case). 22) room) f)
+          ∙ ap heldBy (x .verdict ∙ ap (λ (q : Checked). placed q (λ (c : Case). length (frameBytes c)) room) f ∙ needed-alike (firstOf (wholeTests o)) (caseOf o) _ _ room (standard-length (caseOf o) (in-standard o)))
           ∙ sym (ap (λ (q : Reading). judged q room) e);
       area = x .area ∙ same w ∙ ap (λ (q : Verdict). withFrame q before) (sym h);
     }

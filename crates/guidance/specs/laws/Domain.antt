@@ -5,15 +5,15 @@ use mathlib.Core.Bool.{Bool, true, false, _&&_, cond}
 use native.Mathlib.Nat.{mul-pos, mul-le-mul, mul-le-mul-right}
 use native.Mathlib.Decide.{decLe}
 use native.Mathlib.Omega.{arith}
-use lib.Dec.{lit≤, ltb}
+use lib.Dec.{ltb}
 use borrow.Author.Tests.{lt-ltb, le-ltb}
 use Rattle.exact.specs.Fraction.{Ratio, _≼_, _≈_, Above0, whole, _⊗_, recip, power}
 use Rattle.exact.specs.laws.Ratio.{≼-trans, to≼, from≼, above-mono}
 use Rattle.guidance.specs.declared.Case.{Case}
 use Rattle.guidance.specs.Clouds.{over, heterogeneous, deflagrates, energy}
 use Rattle.guidance.specs.Distances.{metres, cubed, nearer, farther, cube02, cube025, cube034, cube24}
-use Rattle.guidance.specs.Waves.{standardAir}
-use Rattle.guidance.specs.Cases.{Air, Accepted}
+use Rattle.guidance.specs.AirPressure.{airOf}
+use Rattle.guidance.specs.Cases.{Air, Fields, Accepted}
 use Rattle.guidance.specs.CloudWords.{Heated, reduction, joulesOf, partsOf}
 use Rattle.guidance.specs.laws.Limits.{placed-most, joules-least, parts-least, parts-most}
 use Rattle.guidance.specs.laws.Energies.{energy-is}
@@ -25,8 +25,9 @@ heated a = record { fields = a .fields; heat = a .heat }
 pub accepted : {air : ℕ} {c : Case} → Heated c → farther cube24 air c ≡ false → Accepted air c
 accepted h w = record { fields = h .fields; heat = h .heat; within = w }
 
-pub standard : Air standardAir
-standard = record { least = lit≤ tt; most = lit≤ tt }
+-- the case's own air is one over which everything is proved
+pub own-air : {c : Case} → Fields c → Air (airOf c)
+own-air f = record { least = omega (arith, f .air); most = omega (arith, f .air-most) }
 
 -- Energy: 15·10^-6 ≤ E ≤ 3·10^14
 

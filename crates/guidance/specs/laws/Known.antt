@@ -1,6 +1,6 @@
--- Pressures of document 01's case Q whose exact value is a fraction, and some front speeds, by computation of a bracket; the range of a class in its
+-- Pressures of document 01's case Q whose exact value is a fraction, in three airs, and some front speeds, by computation of a bracket; the range of a class in its
 -- surroundings. Assumes nothing.
-use Prim.Native.Nat.{ℕ}
+use Prim.Native.Nat.{ℕ, _*_}
 use mathlib.Core.Path.{_≡_, refl}
 use mathlib.Core.Bool.{Bool, true}
 use mathlib.Core.Logic.{Dec·and}
@@ -18,14 +18,15 @@ use Rattle.exact.specs.laws.Decide.{decAbove0, decF, decPositive, decPositives}
 use Rattle.exact.specs.Holding.{Holds}
 use Rattle.guidance.specs.declared.Case.{Case}
 use Rattle.guidance.specs.Substances.{classOf, heatOf}
+use Rattle.guidance.specs.AirPressure.{standard}
 use Rattle.guidance.specs.Ranges.{ranges, rangeAt}
 use Rattle.guidance.specs.Clouds.{rangeOf, groundFactor, leanBy, leanFactor, aerosolFactor, energy}
 use Rattle.guidance.specs.Distances.{less, metres, cubed, nearer, farther, cube02, cube025}
-use Rattle.guidance.specs.Waves.{standardAir, thousandths, tenths, reducedDistance, aerosolPressure, gasPressure, nearField, detonationPressure, rangeEnd, slowFront, frontSpeedOf, reducedPressure, inPascals, overpressure}
+use Rattle.guidance.specs.Waves.{thousandths, reducedDistance, aerosolPressure, gasPressure, nearField, detonationPressure, rangeEnd, slowFront, frontSpeedOf, reducedPressure, inPascals, overpressure}
 
--- case Q: unlisted, raised, surroundings 1, 100 g, c = s, 1013 J/g, 70 kg
-abbrev pub q : (state distance : ℕ) → Case
-q state distance =
+-- case Q: unlisted, raised, surroundings 1, 100 g, c = s, 70 kg, with a heat in J/g, in some air; E is 100 times the heat
+abbrev pub qIn : (heat air state distance : ℕ) → Case
+qIn heat air state distance =
     record {
       substance = 0;
       state = state;
@@ -34,9 +35,10 @@ q state distance =
       mass = 100;
       mean = 1;
       stoichiometric = 1;
-      heat = 1013;
+      heat = heat;
       distance = distance;
       body = 70;
+      air = air;
     }
 
 -- the point v
@@ -64,10 +66,17 @@ is-at-1 x v h = first x v (bracketAt x 1) refl (inside-true (bracketAt x 1) (poi
 pub point-holds : {x : Formula} {v : Ratio} → FirstIs x v → Holds (point v) x
 point-holds {x} {v} f = contains-holds x 1 (omega arith) (point v) (rw (f .is) (f .within))
 
+-- of Q in air of 10·air Pa: 18·P0 at 19 cm; 0.285 and 0.285·P0 of the heterogeneous one at 100 cm
+record InAir (heat air : ℕ) : Type 0 where
+  gas : bracketIs (overpressure (10 * air) (qIn heat air 0 19)) (whole (180 * air)) ≡ true
+  reduced : bracketIs (reducedPressure (10 * air) (qIn heat air 1 100)) (thousandths 285) ≡ true
+  heterogeneous : bracketIs (overpressure (10 * air) (qIn heat air 1 100)) (thousandths (2850 * air)) ≡ true
+
 record Computed : Type 0 where
-  gas : bracketIs (overpressure standardAir (q 0 19)) (whole 1823400) ≡ true
-  reduced : bracketIs (reducedPressure standardAir (q 1 100)) (thousandths 285) ≡ true
-  heterogeneous : bracketIs (overpressure standardAir (q 1 100)) (tenths 288705) ≡ true
+  -- where E is P0, so that Rx is the distance in metres: in the thinnest, the standard and the densest air
+  thinnest : InAir 500 5000
+  in-standard : InAir 1013 standard
+  densest : InAir 1100 11000
   -- V of 500 t is the point 200, in range 5 by the third bracket and in range 6 by the fifth; V of 64 kg lies within 1 of 43·2 and of 26·2
   tonnes-5 : inside (bracketAt (frontSpeedOf 5 500000000) 3) (point (whole 200)) ≡ true
   tonnes-6 : inside (bracketAt (frontSpeedOf 6 500000000) 5) (point (whole 200)) ≡ true
@@ -76,16 +85,34 @@ record Computed : Type 0 where
 
 computed : Computed
 unfolding bracketIs overpressure inPascals reducedPressure detonationPressure nearField reducedDistance aerosolPressure gasPressure frontSpeedOf slowFront rangeEnd nearer farther less cubed metres cube02 cube025 energy groundFactor leanFactor leanBy aerosolFactor heatOf rangeOf rangeAt ranges classOf inside bracketAt lift _>>_ quotientB lnB expB overPairs quotients smaller larger decF decPositive decPositives Dec·and decAbove0 decLe lnLowerAt lnUpperAt lnLower lnUpper ln2Lower ln2Upper exponent climb fraction argument third seriesLower seriesUpper lnTerm lnTail gap oneOver even expLowerAt expUpperAt expUpperOf oneOverOf expLower expUpper expTerm expTail factorial power sum recip whole _⊕_ _⊗_ _⊖_ ofRatio zeroF oneF magnitude _⊞_ neg _⊟_ _⊠_ inverse
-computed = record { gas = refl; reduced = refl; heterogeneous = refl; tonnes-5 = refl; tonnes-6 = refl; kilograms-5 = refl; kilograms-6 = refl }
+computed =
+    record {
+      thinnest = record { gas = refl; reduced = refl; heterogeneous = refl };
+      in-standard = record { gas = refl; reduced = refl; heterogeneous = refl };
+      densest = record { gas = refl; reduced = refl; heterogeneous = refl };
+      tonnes-5 = refl;
+      tonnes-6 = refl;
+      kilograms-5 = refl;
+      kilograms-6 = refl;
+    }
 
-pub gas-near-field : FirstIs (overpressure standardAir (q 0 19)) (whole 1823400)
-gas-near-field = is-at-1 _ _ (computed .gas)
+-- so these pressures are such fractions
+pub record FirstsIn (heat air : ℕ) : Type 0 where
+  pub gas : FirstIs (overpressure (10 * air) (qIn heat air 0 19)) (whole (180 * air))
+  pub reduced : FirstIs (reducedPressure (10 * air) (qIn heat air 1 100)) (thousandths 285)
+  pub heterogeneous : FirstIs (overpressure (10 * air) (qIn heat air 1 100)) (thousandths (2850 * air))
 
-pub heterogeneous-reduced : FirstIs (reducedPressure standardAir (q 1 100)) (thousandths 285)
-heterogeneous-reduced = is-at-1 _ _ (computed .reduced)
+firsts-in : {heat air : ℕ} → InAir heat air → FirstsIn heat air
+firsts-in a = record { gas = is-at-1 _ _ (a .gas); reduced = is-at-1 _ _ (a .reduced); heterogeneous = is-at-1 _ _ (a .heterogeneous) }
 
-pub heterogeneous-pressure : FirstIs (overpressure standardAir (q 1 100)) (tenths 288705)
-heterogeneous-pressure = is-at-1 _ _ (computed .heterogeneous)
+pub thinnest : FirstsIn 500 5000
+thinnest = firsts-in (computed .thinnest)
+
+pub in-standard : FirstsIn 1013 standard
+in-standard = firsts-in (computed .in-standard)
+
+pub densest : FirstsIn 1100 11000
+densest = firsts-in (computed .densest)
 
 -- the range of every case of a class in some surroundings
 pub range-of : (c : Case) {class surroundings : ℕ} → classOf (c .substance) ≡ class → c .surroundings ≡ surroundings → rangeOf c ≡ rangeAt class surroundings

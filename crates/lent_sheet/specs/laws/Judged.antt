@@ -4,11 +4,14 @@ use mathlib.Core.Path.{_≡_, refl}
 use mathlib.Core.Bool.{Bool, true, false}
 use mathlib.Core.List.{List, [], _∷_}
 use mathlib.Core.Option.{Option, none, some}
+use native.Mathlib.Omega.{arith}
+use lib.Dec.{ltb}
 use lib.ListN.{length}
 use borrow.Author.Tests.{le-ltb}
 use Rattle.refusals.specs.Order.{_when_, firstOf}
 use Rattle.refusals.specs.laws.Order.{orElse, first-held, first-append}
-use Rattle.fields.specs.Bytes.{fieldsOf}
+use Rattle.fields.specs.Bytes.{fieldsOf, frameBytes}
+use Rattle.fields.specs.laws.Back.{frame-most}
 use Rattle.frame.specs.Tests.{frameTests}
 use Rattle.places.specs.declared.Held.{Held}
 use Rattle.places.specs.Holes.{vacant, at}
@@ -19,7 +22,7 @@ use Rattle.sheet.specs.Refusals.{number, vacancyNumber}
 use Rattle.sheet.specs.Tests as sheets
 use Rattle.sheet.specs.Operations.{finding, adding, foundIn, found, heldOf, refusal, act}
 use Rattle.sheet_bytes.specs.Packing.{size, lent}
-use Rattle.lent_sheet.specs.Calls.{space, Change, add, withdraw, close, operation, tests, showTests, totalTests}
+use Rattle.lent_sheet.specs.Calls.{space, Change, add, withdraw, close, operation, tests, frameLength, showTests, totalTests}
 
 adds-number : (own : Option Refusal) (xs : List (Option Held)) (h : Held) (full : Bool)
     → orElse number own (firstOf ((space when false) ∷ (number Full when full) ∷ [])) ≡ refusal (adding (orElse (λ (r : Refusal). r) own (firstOf ((Full when full) ∷ []))) xs h .told)
@@ -47,13 +50,13 @@ judged (withdraw k) s h = rw (le-ltb (length s) size h) (place-judged (at (lent 
 judged close s h = rw (le-ltb (length s) size h) refl
 
 -- of reading, with room for a frame
-pub show-judged : (k : ℕ) (s : List ℕ) (room : ℕ) → size ≤ length s → 22 ≤ room → firstOf (showTests k s room) ≡ refusal (finding (foundIn (at (lent s) k)))
+pub show-judged : (k : ℕ) (s : List ℕ) (room : ℕ) → size ≤ length s → 24 ≤ room → firstOf (showTests k s room) ≡ refusal (finding (foundIn (at (lent s) k)))
 unfolding showTests firstOf
-show-judged k s room h l = rw (le-ltb (length s) size h, le-ltb room 22 l) (go (at (lent s) k))
+show-judged k s room h l = rw (le-ltb (length s) size h) (go (at (lent s) k))
   where
-    go : (x : Option Held) → firstOf ((space when false) ∷ (vacancyNumber Vacant when vacant x) ∷ (space when false) ∷ []) ≡ refusal (finding (foundIn x))
+    go : (x : Option Held) → firstOf ((space when false) ∷ (vacancyNumber Vacant when vacant x) ∷ (space when ltb room (frameLength x)) ∷ []) ≡ refusal (finding (foundIn x))
     go none = refl
-    go (some c) = refl
+    go (some c) = simp (le-ltb room (length (frameBytes (c .case))) (omega (arith, frame-most (c .case))))
 
 -- of the totals
 pub total-judged : (s : List ℕ) → size ≤ length s → firstOf (totalTests s) ≡ none

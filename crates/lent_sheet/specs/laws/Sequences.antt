@@ -4,13 +4,11 @@ use mathlib.Core.Path.{_≡_, refl, sym, ap, ap₂, _∙_}
 use mathlib.Core.List.{List, [], _∷_, _++_}
 use mathlib.Core.Option.{Option, none, some, Option·none-ne-some}
 use native.Mathlib.Omega.{arith}
-use lib.ListN.{length, take, replicate, length-append}
-use lib.Seq.{length-sets, take-at}
+use lib.ListN.{length, replicate, length-append}
+use lib.Seq.{length-sets}
 use Rattle.refusals.specs.Order.{firstOf}
 use Rattle.refusals.specs.laws.Numbers.{no-fault}
-use Rattle.bytes.specs.laws.Storing.{at-start}
-use Rattle.fields.specs.Bytes.{fieldsOf, frameBytes}
-use Rattle.fields.specs.laws.Back.{frame-length}
+use Rattle.fields.specs.Bytes.{fieldsOf}
 use Rattle.places.specs.declared.Held.{Held}
 use Rattle.places.specs.Holes.{at, Each}
 use Rattle.places.specs.laws.Kept.{each-weaker}
@@ -26,7 +24,7 @@ use Rattle.sheet_bytes.specs.Packing.{sheetBytes, size, lent}
 use Rattle.sheet_bytes.specs.laws.Places.{Fits}
 use Rattle.sheet_bytes.specs.laws.Lent.{lent-plain, lent-packed, lent-zeros}
 use Rattle.lent_sheet.specs.Calls.{Change, add, withdraw, close, operation, tests, code, left, told, Acts, shown, Totalled}
-use Rattle.lent_sheet.specs.Runs.{refused, placed, shows, done, Reply, reply, Run, ends, adds, withdraws, closes, reads, telling, showing, replyOf, replied}
+use Rattle.lent_sheet.specs.Runs.{refused, placed, shows, done, Reply, reply, blank, Run, ends, adds, withdraws, closes, reads, telling, showing, replyOf, replied}
 use Rattle.lent_sheet.specs.laws.Judged.{judged, show-judged, total-judged}
 
 -- a refused operation leaves the list
@@ -108,12 +106,10 @@ withdraw-reply : (x : Option Held) (n : ℕ) → n ≡ code (refusal (finding (f
 withdraw-reply none n e = rw e refl
 withdraw-reply (some c) n e = rw e refl
 
-show-reply : (x : Option Held) (n : ℕ) (area after : List ℕ) → n ≡ code (refusal (finding (foundIn x))) → after ≡ shown (refusal (finding (foundIn x))) area x → 22 ≤ length area
-    → reply n (shows (take 22 after)) ≡ showing (foundIn x)
-show-reply none n area after e w l = rw e refl
-show-reply (some c) n area after e w l =
-    let text = w ∙ at-start area (frameBytes (c .case)) (omega (arith, frame-length (c .case))) in
-    rw e (ap shows (ap (take 22) text ∙ take-at (frameBytes (c .case)) _ 22 (frame-length (c .case))))
+show-reply : (x : Option Held) (n : ℕ) (after : List ℕ) → n ≡ code (refusal (finding (foundIn x))) → after ≡ shown (refusal (finding (foundIn x))) blank x
+    → reply n (shows after) ≡ showing (foundIn x)
+show-reply none n after e w = rw e refl
+show-reply (some c) n after e w = rw e (ap shows w)
 
 -- any sequence
 record Follows (s : List ℕ) (operations : List Operation) (replies : List Reply) (t : List ℕ) : Type 0 where
@@ -144,10 +140,10 @@ run-sound (withdraws {s = s} {k = k} {n = n} {u = u} a run) h =
 run-sound (closes {s = s} {n = n} {u = u} a run) h =
     let d = changed close s n u h a (λ z. tt) in
     goes-on (d .list) (rw (d .number) refl) (run-sound run (d .sound))
-run-sound (reads {s = s} {k = k} {n = n} {area = area} {after = read} room a run) h =
-    let first = show-judged k s (length area) (h .room) room in
+run-sound (reads {s = s} {k = k} {n = n} {after = read} a run) h =
+    let first = show-judged k s (length blank) (h .room) (omega arith) in
     goes-on refl
-    (show-reply (at (lent s) k) n area read (a .returned ∙ ap code first) (a .area ∙ ap (λ (f : Option ℕ). shown f area (at (lent s) k)) first) room)
+    (show-reply (at (lent s) k) n read (a .returned ∙ ap code first) (a .area ∙ ap (λ (f : Option ℕ). shown f blank (at (lent s) k)) first))
     (run-sound run h)
 
 -- from the empty sheet, whatever stands behind its bytes

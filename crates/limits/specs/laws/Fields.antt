@@ -1,7 +1,7 @@
 -- A case passes tests 3 to 6 just where its fields are in their values and it has a heat. Assumes nothing.
 use Prim.Native.Nat.{ℕ, zero, suc, _*_}
 use mathlib.Core.Path.{_≡_, refl, sym, _∙_}
-use mathlib.Core.Bool.{_&&_}
+use mathlib.Core.Bool.{false, _&&_}
 use mathlib.Core.Option.{none}
 use native.Mathlib.Omega.{arith}
 use lib.Dec.{eqb}
@@ -11,7 +11,7 @@ use Rattle.guidance.specs.Substances.{betaOf, heatOf}
 use Rattle.guidance.specs.Cases.{Fields}
 use Rattle.guidance.specs.CloudWords.{Heated}
 use Rattle.refusals.specs.Order.{firstOf}
-use Rattle.refusals.specs.laws.Order.{none-of, none-applies, Passed, none-found}
+use Rattle.refusals.specs.laws.Order.{neither, none-of, none-applies, Passed, none-found}
 use Rattle.limits.specs.laws.Limits.{inside, not-outside}
 use Rattle.limits.specs.Tests.{outside, quantityOutside, heatMissing, valueTests, fieldTests}
 
@@ -34,9 +34,10 @@ module _ (c : Case) (p : Passed (fieldTests c)) where
   unfolding fieldTests valueTests quantityOutside
   fields =
       let surroundings = p .1 .1 .1 .0 in
+      let air = neither _ (outside 5000 11000 (c .air)) (p .1 .1 .1 .1 .0) in
       let q =
       none-of (outside 1 1000000000 (c .mass)) (outside 1 50000 (c .mean)) (outside 1 50000 (c .stoichiometric)) (outside 0 150000 (c .heat)) (outside 1 1000000 (c .distance)) (outside 1 500 (c .body))
-      (p .1 .1 .1 .1 .0) in
+      (air .0) in
       record {
         substance = inside 0 75 (c .substance) (p .0) .1;
         state = inside 0 1 (c .state) (p .1 .0) .1;
@@ -54,6 +55,8 @@ module _ (c : Case) (p : Passed (fieldTests c)) where
         distance-most = inside 1 1000000 (c .distance) (q .4) .1;
         body = inside 1 500 (c .body) (q .5) .0;
         body-most = inside 1 500 (c .body) (q .5) .1;
+        air = inside 5000 11000 (c .air) (air .1) .0;
+        air-most = inside 5000 11000 (c .air) (air .1) .1;
       }
 
   pub heated : Heated c
@@ -69,7 +72,7 @@ pub heated-passes : {c : Case} → Heated c → firstOf (fieldTests c) ≡ none
 unfolding fieldTests valueTests quantityOutside
 heated-passes {c} h =
     let f = h .fields in
-    let quantities =
+    let others =
     none-applies
     (not-outside 1 1000000000 (c .mass) (f .mass) (f .mass-most))
     (not-outside 1 50000 (c .mean) (f .mean) (f .mean-most))
@@ -77,6 +80,7 @@ heated-passes {c} h =
     (not-outside 0 150000 (c .heat) (omega arith) (f .heat-most))
     (not-outside 1 1000000 (c .distance) (f .distance) (f .distance-most))
     (not-outside 1 500 (c .body) (f .body) (f .body-most)) in
+    let quantities : quantityOutside c ≡ false = simp (others, not-outside 5000 11000 (c .air) (f .air) (f .air-most)) in
     none-found (fieldTests c) (
       not-outside 0 75 (c .substance) (omega arith) (f .substance),
       (

@@ -23,6 +23,9 @@ use Rattle.from_old.specs.declared.Verdict as old-verdicts
 use Rattle.from_old.specs.declared.Verdict.the-variants as old-line
 use Rattle.from_old.specs.Refusals as old-lines
 use Rattle.from_old.specs.Tests.{lineVerdict}
+use Rattle.to_old.specs.declared.Verdict as back-verdicts
+use Rattle.to_old.specs.declared.Verdict.the-variants as back
+use Rattle.to_old.specs.Refusals as ways-back
 use Rattle.to_old.specs.Tests as old-tests
 use Rattle.refusals.specs.Order.{Test, _when_, firstOf}
 use Rattle.refusals.specs.laws.Order.{orElse, first-held, applies, absent}
@@ -38,7 +41,7 @@ use Rattle.linked.specs.Rings.{Given, Answered}
 use Rattle.linked.specs.OldLines.{CameIn, WentBack}
 use Rattle.linked.specs.Writings.{WroteCase}
 use Rattle.linked.specs.Reasons as reasons
-use Rattle.numbering.specs.Entries.Refused.{answer, ring, writing, oldLine, adding}
+use Rattle.numbering.specs.Entries.Refused.{answer, ring, writing, oldLine, wayBack, adding}
 use Rattle.numbering.specs.laws.Retired.{retired}
 
 code-retired : (v : Verdict) → code v ≡ 4 → ⊥
@@ -77,14 +80,18 @@ came-in-not-4 {line} {before} e h = go (lineVerdict line (length before)) (sym (
     go (old-line.Accepted c) = λ z. omega arith
     go (old-line.Refused r) = retired (oldLine r)
 
+pub went-back-not-4 : {frame before after : List ℕ} {n : ℕ} → WentBack frame before n after → n ≡ 4 → ⊥
+went-back-not-4 {frame} {before} e h = go (old-tests.frameVerdict frame (length before)) (sym (e .returned) ∙ h)
+  where
+    go : (v : back-verdicts.Verdict) → ways-back.code v ≡ 4 → ⊥
+    go (back.Accepted c) = λ z. omega arith
+    go (back.Refused r) = retired (wayBack r)
+
+-- a frame from fields, and a spelling
 written-retired : (v : verdicts.Verdict) → writings.code v ≡ 4 → ⊥
 written-retired (written.Accepted c) = λ z. omega arith
 written-retired (written.Refused r) = retired (writing r)
 
-pub went-back-not-4 : {frame before after : List ℕ} {n : ℕ} → WentBack frame before n after → n ≡ 4 → ⊥
-went-back-not-4 {frame} {before} e h = written-retired (old-tests.frameVerdict frame (length before)) (sym (e .returned) ∙ h)
-
--- a frame from fields, and a spelling
 pub wrote-not-4 : {text : Case → List ℕ} {due : verdicts.Verdict} {n : ℕ} {before after : List ℕ} → WroteCase text due before n after → n ≡ 4 → ⊥
 wrote-not-4 {due = due} e h = written-retired due (sym (e .returned) ∙ h)
 

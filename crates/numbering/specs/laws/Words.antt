@@ -10,10 +10,11 @@ use Rattle.frame.specs.declared.Refusal.the-variants as answers
 use Rattle.ring.specs.declared.Refusal.the-variants as rings
 use Rattle.writable.specs.declared.Refusal.the-variants as writings
 use Rattle.from_old.specs.declared.Refusal.the-variants as old-lines
+use Rattle.to_old.specs.declared.Refusal.the-variants as ways-back
 use Rattle.sheet.specs.declared.Refusal.the-variants as sheets
 use Rattle.sheet.specs.declared.Vacancy.the-variants.{Vacant}
 use Rattle.numbering.specs.Entries.{Refused, number, word}
-use Rattle.numbering.specs.Entries.Refused.{answer, ring, writing, oldLine, adding, place}
+use Rattle.numbering.specs.Entries.Refused.{answer, ring, writing, oldLine, wayBack, adding, place}
 
 -- the words by their numbers from 0 on; an accepted case has none, and 4 has none any more
 abbrev pub words : List (List ℕ)
@@ -37,6 +38,7 @@ words =
     ∷ word (oldLine old-lines.Double)
     ∷ word (adding sheets.Full)
     ∷ word (place Vacant)
+    ∷ word (wayBack ways-back.Air)
     ∷ []
 
 fault-listed : (f : Fault) → faults.word f ≡ getD words (faults.number f) []
@@ -63,6 +65,9 @@ listed (oldLine (old-lines.Unwritten (writings.Faulty f))) = fault-listed f
 listed (oldLine (old-lines.Unwritten writings.Space)) = refl
 listed (oldLine old-lines.Tag) = refl
 listed (oldLine old-lines.Double) = refl
+listed (wayBack (ways-back.Faulty f)) = fault-listed f
+listed (wayBack ways-back.Air) = refl
+listed (wayBack ways-back.Space) = refl
 listed (adding (sheets.Faulty f)) = fault-listed f
 listed (adding sheets.Beyond) = refl
 listed (adding sheets.Full) = refl

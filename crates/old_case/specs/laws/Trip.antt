@@ -1,6 +1,6 @@
 -- A case to doubles and back, and doubles to a case and back. Assumes nothing.
 use Prim.Native.Nat.{ℕ, zero, suc, _<_}
-use mathlib.Core.Path.{_≡_, refl, ap, _∙_}
+use mathlib.Core.Path.{_≡_, refl, sym, ap, _∙_}
 use mathlib.Core.Bool.{Bool, true, false, _&&_}
 use native.Mathlib.Omega.{arith}
 use lib.Dec.{T, eqb}
@@ -8,6 +8,7 @@ use lib.Ieee.{binary64, fits, lt, ofInt, round}
 use lib.Ieee.Fits.{round-fits}
 use borrow.Author.Tests.{ne-eqb}
 use Rattle.guidance.specs.declared.Case.{Case}
+use Rattle.guidance.specs.AirPressure.{standard}
 use Rattle.guidance.specs.Cases.{Fields}
 use Rattle.doubles.specs.Doubles.{whole, nearest}
 use Rattle.doubles.specs.laws.Trip.{back-in}
@@ -16,6 +17,11 @@ use Rattle.old_case.specs.declared.OldCase.{OldCase}
 use Rattle.old_case.specs.Cases.{caseOf, lostHeat, oldCaseOf}
 use Rattle.old_case.specs.Exactly.{AllExactly}
 use Rattle.old_case.specs.laws.Fractions.{Fractions, fractions}
+
+-- what comes in is in the standard air
+pub in-standard : (o : OldCase) → caseOf o .air ≡ standard
+unfolding caseOf
+in-standard o = refl
 
 -- a heat of 0 is no heat above zero
 no-heat : (n : ℕ) → (lt (whole 0) (nearest 1000 n) && eqb n 0) ≡ false
@@ -60,9 +66,10 @@ module _ (c : Case) (f : Fields c) where
         body = round-fits binary64 false (c .body) 1;
       }
 
-  pub case-again : caseOf (oldCaseOf c) ≡ c
+  -- a case in the standard air
+  pub case-again : c .air ≡ standard → caseOf (oldCaseOf c) ≡ c
   unfolding caseOf oldCaseOf
-  case-again =
+  case-again e =
       λ i. record {
         substance = c .substance;
         state = c .state;
@@ -74,6 +81,7 @@ module _ (c : Case) (f : Fields c) where
         heat = back-in 1000 (c .heat) (k .heat) i;
         distance = back-in 100 (c .distance) (k .distance) i;
         body = back-in 1 (c .body) (k .body) i;
+        air = sym e i;
       }
 
   pub heat-kept : lostHeat (oldCaseOf c) ≡ false

@@ -5,8 +5,9 @@ use mathlib.Core.Bool.{true}
 use mathlib.Core.List.{List, _++_}
 use mathlib.Core.Option.{none}
 use native.Mathlib.Omega.{arith}
-use lib.ListN.{length}
+use lib.ListN.{length, take}
 use Rattle.guidance.specs.declared.Case.{Case}
+use Rattle.guidance.specs.AirPressure.{standard}
 use Rattle.guidance.specs.Cases.{Fields}
 use Rattle.refusals.specs.Order.{firstOf}
 use Rattle.hexadecimals.specs.Digits.{bytesOf}
@@ -15,24 +16,22 @@ use Rattle.hexadecimals.specs.laws.Spelling.{length-bytesOf}
 use Rattle.hexadecimals.specs.laws.Writing.{length-digits}
 use Rattle.hexadecimals.specs.laws.Written.{bytes-of-digits, all-digits, upper-digits, digits-of-bytes, spelled-bytes}
 use Rattle.fields.specs.Bytes.{fieldsOf, frameBytes}
-use Rattle.fields.specs.laws.Back.{frame-bytes, frame-again, fields-again}
+use Rattle.fields.specs.laws.Back.{standard-length, standard-in, air-of-fields, frame-bytes, frame-again, shorter-again, fields-again}
 use Rattle.limits.specs.Tests.{valueTests, heatTests, fieldTests}
 use Rattle.limits.specs.laws.Checks.{none-lost, heat-clear, heated-by}
 use Rattle.frame.specs.Tests.{frameTests}
 use Rattle.frame.specs.laws.Checks.{frame-case, frame-passes, frame-clear}
-use Rattle.writable.specs.declared.Verdict.the-variants as written
-use Rattle.writable.specs.laws.Verdicts.{accepts}
 use Rattle.old_case.specs.declared.OldCase.{OldCase}
 use Rattle.old_case.specs.Cases.{unusableIn, caseOf, lostHeat, oldCaseOf}
 use Rattle.old_bytes.specs.Bytes.{oldOf, oldBytes, misplaced}
 use Rattle.old_case.specs.Exactly.{AllExactly}
 use Rattle.old_case.specs.laws.Fractions.{all-usable}
 use Rattle.old_bytes.specs.laws.Back.{old-length, old-bytes, old-again, tags-in-place, bytes-again, bytes-fit}
-use Rattle.old_case.specs.laws.Trip.{fitting, case-again, heat-kept, all-exactly, old-kept}
+use Rattle.old_case.specs.laws.Trip.{in-standard, fitting, case-again, heat-kept, all-exactly, old-kept}
 use Rattle.from_old.specs.declared.Verdict.{Verdict}
 use Rattle.from_old.specs.declared.Verdict.the-variants.{Accepted}
 use Rattle.from_old.specs.Tests.{wholeTests, lineVerdict}
-use Rattle.to_old.specs.Tests.{frameVerdict}
+use Rattle.to_old.specs.laws.Verdicts.{frame-accepts, frame-refuses}
 use Rattle.to_old.specs.Entry.{oldLine}
 use Rattle.old_form.specs.RoundTrip.{Sound, RoundTrip}
 use Rattle.from_old.specs.laws.Readings.{Read}
@@ -64,33 +63,33 @@ module _ (c : Case) (f : Fields c) where
         usable = ap unusableIn line-holds ∙ all-usable c f;
       }
 
-  -- and accepted, if the case passes tests 3 to 6
-  wholes-sound : firstOf (fieldTests c) ≡ none → firstOf (wholeTests o) ≡ none
-  unfolding wholeTests
-  wholes-sound h = (λ k. firstOf (valueTests (case-again c f k) ++ heatTests (heat-kept c f k) (case-again c f k))) ∙ none-lost c ∙ h
+  -- and accepted, if the case passes tests 3 to 6 and is in the standard air
+  module _ (a : c .air ≡ standard) (h : firstOf (fieldTests c) ≡ none) where
+    again : caseOf o ≡ c
+    again = case-again c f a
 
-  accepted-again : (room : ℕ) → firstOf (fieldTests c) ≡ none → 22 ≤ room → lineVerdict (oldLine c) room ≡ Accepted c
-  accepted-again room h r =
-      line-accepts (oldLine c) room line-reads (ap (λ (k : OldCase). firstOf (wholeTests k)) line-holds ∙ wholes-sound h) r
-      ∙ ap {B = Verdict} Accepted (ap caseOf line-holds ∙ case-again c f)
+    wholes-sound : firstOf (wholeTests o) ≡ none
+    unfolding wholeTests
+    wholes-sound = (λ k. firstOf (valueTests (again k) ++ heatTests (heat-kept c f k) (again k))) ∙ none-lost c ∙ h
+
+    accepted-again : (room : ℕ) → 22 ≤ room → lineVerdict (oldLine c) room ≡ Accepted c
+    accepted-again room r =
+        line-accepts (oldLine c) room line-reads (ap (λ (k : OldCase). firstOf (wholeTests k)) line-holds ∙ wholes-sound) r
+        ∙ ap {B = Verdict} Accepted (ap caseOf line-holds ∙ again)
 
 -- a frame of bytes that passes tests 1 to 6
 module _ (frame : List ℕ) (s : Sound frame) where
-  size : length frame ≡ 22
-  size = frame-clear frame (s .passes) .0
-
   good : Fields (fieldsOf frame)
   good = frame-clear frame (s .passes) .1 .fields
 
-  goes : (room : ℕ) → 116 ≤ room → frameVerdict frame room ≡ written.Accepted (fieldsOf frame)
-  unfolding frameVerdict
-  goes room r = accepts (frameTests frame) 116 room (fieldsOf frame) (s .passes) r
+  comes : (room : ℕ) → fieldsOf frame .air ≡ standard → 22 ≤ room → lineVerdict (oldLine (fieldsOf frame)) room ≡ Accepted (fieldsOf frame)
+  comes room a r = accepted-again (fieldsOf frame) good a (sym (frame-case frame (frame-clear frame (s .passes) .0)) ∙ s .passes) room r
 
-  comes : (room : ℕ) → 22 ≤ room → lineVerdict (oldLine (fieldsOf frame)) room ≡ Accepted (fieldsOf frame)
-  comes room r = accepted-again (fieldsOf frame) good room (sym (frame-case frame size) ∙ s .passes) r
+  unchanged : length frame ≡ 22 → (fieldsOf frame .air ≡ standard) × (frameBytes (fieldsOf frame) ≡ frame)
+  unchanged n = (air-of-fields frame ∙ standard-in frame (λ e. omega arith), frame-again frame (s .bytes) n)
 
-  unchanged : frameBytes (fieldsOf frame) ≡ frame
-  unchanged = frame-again frame (s .bytes) size
+  shortened : length frame ≡ 24 → fieldsOf frame .air ≡ standard → frameBytes (fieldsOf frame) ≡ take 22 frame
+  shortened n a = shorter-again frame (s .bytes) n (sym (air-of-fields frame) ∙ a)
 
 -- an accepted line
 module _ (line : List ℕ) (room : ℕ) (c : Case) (a : lineVerdict line room ≡ Accepted c) where
@@ -106,8 +105,12 @@ module _ (line : List ℕ) (room : ℕ) (c : Case) (a : lineVerdict line room �
   fields : Fields c
   fields = heated-by c sound .fields
 
-  line-goes : Sound (frameBytes c) × (fieldsOf (frameBytes c) ≡ c)
+  standard-air : c .air ≡ standard
+  standard-air = ap (λ (k : Case). k .air) (taken .same) ∙ in-standard (oldOf (bytesOf line))
+
+  line-goes : (length (frameBytes c) ≡ 22) × Sound (frameBytes c) × (fieldsOf (frameBytes c) ≡ c)
   line-goes = (
+    standard-length c standard-air,
     record {
       bytes = frame-bytes c;
       passes = frame-passes fields sound;
@@ -133,9 +136,11 @@ module _ (line : List ℕ) (room : ℕ) (c : Case) (a : lineVerdict line room �
 pub round-trip : RoundTrip
 round-trip =
     record {
-      frame-goes = λ frame room s r. goes frame s room r;
-      frame-comes = λ frame room s r. comes frame s room r;
+      frame-goes = λ frame room s a r. frame-accepts frame room (s .passes) a r;
+      frame-comes = λ frame room s a r. comes frame s room a r;
       frame-unchanged = unchanged;
+      frame-shortened = shortened;
+      frame-stays = λ frame room s a. frame-refuses frame room (s .passes) a;
       line-goes = line-goes;
       line-unchanged = λ line room c a. (came-back line room c a, comes-back line room c a);
     }

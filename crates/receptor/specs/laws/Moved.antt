@@ -41,6 +41,8 @@ fields-moved f p =
       distance-most = p .most;
       body = f .body;
       body-most = f .body-most;
+      air = f .air;
+      air-most = f .air-most;
     }
 
 pub heated-moved : {c : Case} {d : ℕ} → Heated c → Permitted d → Heated (moved c d)

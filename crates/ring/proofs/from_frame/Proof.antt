@@ -1,6 +1,5 @@
 -- `ring::from_frame` meets its contract. Assumes nothing.
 use mathlib.Core.Path.{sym, _∙_}
-use native.Mathlib.Omega.{arith}
 use denote.Ref.{now}
 use Rattle.frame.specs.laws.Checks.{frame-heated}
 use Rattle.ring.specs.laws.Entries.{frame-answers}
@@ -12,7 +11,7 @@ check-frame-requires : tie.Need-check-frame-requires
 check-frame-requires c κs = search needs
 
 answer-to-requires : tie.Need-answer-to-requires
-answer-to-requires c κs = ((λ d e. frame-heated _ d (sym (c .check-frame .ensures) ∙ e)), record { least = omega arith; most = omega arith })
+answer-to-requires c κs d e = frame-heated _ d (sym (c .check-frame .ensures) ∙ e)
 
 returns : tie.Need-returns
 returns c =

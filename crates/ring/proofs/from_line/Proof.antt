@@ -1,6 +1,5 @@
 -- `ring::from_line` meets its contract. Assumes nothing.
 use mathlib.Core.Path.{sym, _∙_}
-use native.Mathlib.Omega.{arith}
 use denote.Ref.{now}
 use Rattle.frame.specs.laws.Checks.{line-heated}
 use Rattle.ring.specs.laws.Entries.{line-answers}
@@ -12,7 +11,7 @@ check-line-requires : tie.Need-check-line-requires
 check-line-requires c κs = search needs
 
 answer-to-requires : tie.Need-answer-to-requires
-answer-to-requires c κs = ((λ d e. line-heated _ d (sym (c .check-line .ensures) ∙ e)), record { least = omega arith; most = omega arith })
+answer-to-requires c κs d e = line-heated _ d (sym (c .check-line .ensures) ∙ e)
 
 returns : tie.Need-returns
 returns c =

@@ -5,10 +5,9 @@ use mathlib.Core.Bool.{true, false}
 use mathlib.Core.List.{List}
 use mathlib.Core.Option.{Option, none, some}
 use native.Mathlib.Omega.{arith}
-use lib.ListN.{length}
 use Rattle.guidance.specs.declared.Case.{Case}
 use Rattle.guidance.specs.Distances.{farther, cube24}
-use Rattle.guidance.specs.Waves.{standardAir}
+use Rattle.guidance.specs.AirPressure.{airOf}
 use Rattle.guidance.specs.Cases.{Air}
 use Rattle.hexadecimals.specs.Digits.{allDigits, bytesOf}
 use Rattle.refusals.specs.declared.Fault.{Fault}
@@ -19,7 +18,7 @@ use Rattle.fields.specs.Bytes.{fieldsOf}
 use Rattle.limits.specs.declared.Checked.{Checked}
 use Rattle.limits.specs.Tests.{outside}
 use Rattle.limits.specs.Checks.{checkedBy}
-use Rattle.frame.specs.Tests.{frameTests, lineTests}
+use Rattle.frame.specs.Tests.{either, frameTests, lineTests}
 use Rattle.frame.specs.Checks.{frameChecked, lineChecked}
 use Rattle.frame.specs.laws.Checks.{line-frame, frame-clear, line-clear}
 use Rattle.receptor.specs.Receptor.{moved}
@@ -29,7 +28,7 @@ use Rattle.ring.specs.declared.Refusal.the-variants.{Faulty, Threshold, 
 use Rattle.ring.specs.declared.Answer.{Answer}
 use Rattle.ring.specs.declared.Answer.the-variants.{Refused}
 use Rattle.ring.specs.Refusals.{number}
-use Rattle.ring.specs.Ring.{lastTests, tests, Fits, Answers, FromFrame, FromLine}
+use Rattle.ring.specs.Ring.{lastTests, tests, Fits, Answers, OwnRing, FromFrame, FromLine}
 use Rattle.ring.specs.Searching.{RingFor, AnswerTo}
 
 -- by test 9
@@ -43,33 +42,31 @@ unfolding firstOf lastTests
 within-limits air c t a h f = rw h f
 
 -- it decides where none of 1 to 6 applies
-answers-by : (ts : List (Test Fault)) (c : Case) (air t : ℕ) (a : Answer) → AnswerTo (checkedBy (firstOf ts) c) air t a
-    → Answers (firstOf (tests ts air t)) air c t a
+answers-by : (ts : List (Test Fault)) (c : Case) (t : ℕ) (a : Answer) → AnswerTo (checkedBy (firstOf ts) c) t a → OwnRing ts c t a
 unfolding tests
-answers-by ts c air t a h = rw (first-held Faulty ts (lastTests air t)) (go (firstOf ts) h)
+answers-by ts c t a h = rw (first-held Faulty ts (lastTests (airOf c) t)) (go (firstOf ts) h)
   where
-    go : (o : Option Fault) → AnswerTo (checkedBy o c) air t a → Answers (orElse Faulty o (firstOf (lastTests air t))) air c t a
+    go : (o : Option Fault) → AnswerTo (checkedBy o c) t a → Answers (orElse Faulty o (firstOf (lastTests (airOf c) t))) (airOf c) c t a
     go none h = h
     go (some f) h = h
 
-pub frame-answers : (frame : List ℕ) (t : ℕ) {s : Checked} (a : Answer) → s ≡ frameChecked frame → AnswerTo s standardAir t a → FromFrame frame t a
+pub frame-answers : (frame : List ℕ) (t : ℕ) {s : Checked} (a : Answer) → s ≡ frameChecked frame → AnswerTo s t a → FromFrame frame t a
 unfolding frameChecked
-frame-answers frame t a e h =
-    answers-by (frameTests frame) (fieldsOf frame) standardAir t a (subst (λ (s : Checked). AnswerTo s standardAir t a) e h)
+frame-answers frame t a e h = answers-by (frameTests frame) (fieldsOf frame) t a (subst (λ (s : Checked). AnswerTo s t a) e h)
 
-pub line-answers : (line : List ℕ) (t : ℕ) {s : Checked} (a : Answer) → s ≡ lineChecked line → AnswerTo s standardAir t a → FromLine line t a
+pub line-answers : (line : List ℕ) (t : ℕ) {s : Checked} (a : Answer) → s ≡ lineChecked line → AnswerTo s t a → FromLine line t a
 unfolding lineChecked
-line-answers line t a e h =
-    answers-by (lineTests line) (fieldsOf (bytesOf line)) standardAir t a (subst (λ (s : Checked). AnswerTo s standardAir t a) e h)
+line-answers line t a e h = answers-by (lineTests line) (fieldsOf (bytesOf line)) t a (subst (λ (s : Checked). AnswerTo s t a) e h)
 
--- a line of 44 digits is answered as the frame that it spells
+-- a line of 44 or 48 digits is answered as the frame that it spells
 
 pub line-as-frame
-    : (line : List ℕ) (t : ℕ) (a : Answer) → length line ≡ 44 → allDigits line ≡ true → FromLine line t a → FromFrame (bytesOf line) t a
+    : (line : List ℕ) (t : ℕ) (a : Answer) → either 44 48 line ≡ true → allDigits line ≡ true → FromLine line t a → FromFrame (bytesOf line) t a
 unfolding tests
 line-as-frame line t a h d f =
-    subst (λ (o : Option Refusal). Answers o standardAir (fieldsOf (bytesOf line)) t a)
-    (same-held Faulty (lineTests line) (frameTests (bytesOf line)) (lastTests standardAir t) (line-frame line h d)) f
+    let c = fieldsOf (bytesOf line) in
+    subst (λ (o : Option Refusal). Answers o (airOf c) c t a)
+    (same-held Faulty (lineTests line) (frameTests (bytesOf line)) (lastTests (airOf c) t) (line-frame line h d)) f
 
 -- no case that passes tests 1 to 6 is beyond at 1 cm, in any air that is covered
 

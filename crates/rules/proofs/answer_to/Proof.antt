@@ -1,12 +1,11 @@
 -- `rules::answer_to` meets its contract. Assumes nothing.
 use mathlib.Core.Path.{refl}
-use native.Mathlib.Omega.{arith}
 use borrow.Author.Needs.{needs}
 use Rattle.rules.proofs.answer_to.Statement.{statement}
 use Rattle.rules.proofs.answer_to.Tie as tie
 
 rules-of-requires : tie.Need-rules-of-requires
-rules-of-requires c κs = (c .before .before .before .pre _ (c .before .v .given .1), record { least = omega arith; most = omega arith })
+rules-of-requires c κs = c .before .before .before .pre _ (c .before .v .given .1)
 
 returns : tie.Need-returns
 returns c = rw (c .before .before .v .given .1) (c .rules-of .ensures)

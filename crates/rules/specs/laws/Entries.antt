@@ -4,7 +4,6 @@ use mathlib.Core.Path.{_≡_, subst, ap}
 use mathlib.Core.Bool.{true}
 use mathlib.Core.List.{List}
 use native.Mathlib.Omega.{arith}
-use lib.ListN.{length}
 use Rattle.hexadecimals.specs.Digits.{allDigits, bytesOf}
 use Rattle.refusals.specs.declared.Fault.the-variants.{Digit}
 use Rattle.frame.specs.declared.Refusal.{Refusal}
@@ -12,6 +11,7 @@ use Rattle.frame.specs.declared.Refusal.the-variants.{Faulty, Space}
 use Rattle.frame.specs.declared.Verdict.{Verdict}
 use Rattle.frame.specs.declared.Verdict.the-variants as verdict
 use Rattle.frame.specs.Verdicts.{answerLength, frameVerdict, lineVerdict}
+use Rattle.frame.specs.Tests.{either}
 use Rattle.frame.specs.laws.Verdicts.{line-frame, frame-no-digit, frame-no-space, line-no-space}
 use Rattle.rules.specs.declared.Answer.{Answer}
 use Rattle.rules.specs.declared.Answer.the-variants.{Refused}
@@ -31,5 +31,5 @@ frame-never-digit frame h = frame-no-digit frame answerLength (refused-as (frame
 pub line-never-space : (line : List ℕ) → FromLine line (Refused Space) → ⊥
 line-never-space line h = line-no-space line answerLength (omega arith) (refused-as (lineVerdict line answerLength) Space h)
 
-pub line-as-frame : (line : List ℕ) (a : Answer) → length line ≡ 44 → allDigits line ≡ true → FromLine line a → FromFrame (bytesOf line) a
+pub line-as-frame : (line : List ℕ) (a : Answer) → either 44 48 line ≡ true → allDigits line ≡ true → FromLine line a → FromFrame (bytesOf line) a
 line-as-frame line a h d f = subst (λ (v : Verdict). Answers v a) (line-frame line answerLength h d) f

@@ -7,13 +7,14 @@ use native.Mathlib.Decide.{decLe}
 use Rattle.exact.specs.Fraction.{whole, _⊗_, power}
 use Rattle.exact.specs.Formula.{Formula}
 use Rattle.guidance.specs.declared.Case.{Case}
+use Rattle.guidance.specs.AirPressure.{airOf}
 use Rattle.guidance.specs.Substances.{betas, betaOf, classOf, heatOf}
 use Rattle.guidance.specs.Ranges.{ranges, rangeAt}
 use Rattle.guidance.specs.Clouds.{rangeOf, deflagrates, groundFactor, leanBy, leanFactor, aerosolFactor, energy}
 use Rattle.guidance.specs.Distances.{less, metres, cubed, nearer, farther, cube02, cube025, cube24}
-use Rattle.guidance.specs.Waves.{standardAir, nearField}
+use Rattle.guidance.specs.Waves.{nearField}
 use Rattle.refusals.specs.Order.{firstOf, held}
-use Rattle.fields.specs.Bytes.{fieldsOf}
+use Rattle.fields.specs.Bytes.{airIn, fieldsOf}
 use Rattle.limits.specs.Tests.{quantityOutside, heatMissing, valueTests, fieldTests}
 use Rattle.frame.specs.declared.Verdict.{Verdict}
 use Rattle.frame.specs.declared.Verdict.the-variants as verdict
@@ -34,14 +35,14 @@ both r = Named (record { pressure = r; impulse = r })
 gave-alone : (b : Bool) (air : ℕ) (c : Case) (x y : Formula) (r : Rule) → b ≡ false → Gave b air c x y r → r ≡ detonationRule (nearField air c)
 gave-alone b air c x y r e g = subst (λ (t : Bool). Gave t air c x y r) e g
 
-named-alone : (c : Case) (a : Answer) → deflagrates c ≡ false → Answers (verdict.Accepted c) a → a ≡ both (detonationRule (nearField standardAir c))
+named-alone : (c : Case) (a : Answer) → deflagrates c ≡ false → Answers (verdict.Accepted c) a → a ≡ both (detonationRule (nearField (airOf c) c))
 named-alone c (Named r) e h =
-    ap₂ (λ (p i : Rule). Named (record { pressure = p; impulse = i })) (gave-alone (deflagrates c) standardAir c _ _ (r .pressure) e (h .pressure))
-    (gave-alone (deflagrates c) standardAir c _ _ (r .impulse) e (h .impulse))
+    ap₂ (λ (p i : Rule). Named (record { pressure = p; impulse = i })) (gave-alone (deflagrates c) (airOf c) c _ _ (r .pressure) e (h .pressure))
+    (gave-alone (deflagrates c) (airOf c) c _ _ (r .impulse) e (h .impulse))
 named-alone c (Refused q) e h = absurd h
 
 pub range-1 : (frame : List ℕ) (c : Case) (a : Answer) → frameVerdict frame answerLength ≡ verdict.Accepted c → deflagrates c ≡ false → FromFrame frame a
-    → a ≡ both (detonationRule (nearField standardAir c))
+    → a ≡ both (detonationRule (nearField (airOf c) c))
 range-1 frame c a v e h = named-alone c a e (subst (λ (w : Verdict). Answers w a) v h)
 
 pub record Examples : Type 0 where
@@ -52,7 +53,7 @@ pub record Examples : Type 0 where
   pub beyond : (a : Answer) → FromFrame (q 0 2401) a → a ≡ Refused Beyond
 
 pub examples : Examples
-unfolding frameVerdict firstOf held frameTests fieldTests valueTests lastTests quantityOutside heatMissing fieldsOf farther nearer less cubed metres cube02 cube025 cube24 power whole _⊗_ energy groundFactor leanFactor leanBy decLe aerosolFactor heatOf betas betaOf rangeOf rangeAt ranges classOf nearField
+unfolding frameVerdict firstOf held frameTests fieldTests valueTests lastTests quantityOutside heatMissing airIn fieldsOf farther nearer less cubed metres cube02 cube025 cube24 power whole _⊗_ energy groundFactor leanFactor leanBy decLe aerosolFactor heatOf betas betaOf rangeOf rangeAt ranges classOf nearField
 examples =
     record {
       gas-within = λ a h. range-1 (q 0 19) (fieldsOf (q 0 19)) a refl refl h;

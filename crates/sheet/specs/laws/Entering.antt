@@ -8,7 +8,8 @@ use native.Mathlib.Omega.{arith}
 use lib.ListN.{length, set}
 use borrow.Author.Tests.{eq-eqb, ne-eqb}
 use Rattle.guidance.specs.declared.Case.{Case}
-use Rattle.guidance.specs.Waves.{standardAir, overpressure}
+use Rattle.guidance.specs.AirPressure.{airOf}
+use Rattle.guidance.specs.Waves.{overpressure}
 use Rattle.hexadecimals.specs.Digits.{bytesOf}
 use Rattle.refusals.specs.declared.Fault.{Fault}
 use Rattle.refusals.specs.Order.{Test, _when_, firstOf, held}
@@ -122,7 +123,7 @@ place-left s n size f g = omega (arith, stands-most (s .places) size, f, g)
 
 -- no test applies: the case is taken, with an end that was found
 pub by-none : (s : Sheet) (c : Case) (a : Added) (n : ℕ) (e : Ends) → beyond c ≡ false → n ≡ length (listOf s) → (n ≡ 64 → ⊥)
-    → Ended (overpressure standardAir c) (2 ^ 24) e
+    → Ended (overpressure (airOf c) c) (2 ^ 24) e
     → Gives s (adding none (listOf s) (heldOf c (e .upper))) (a .sheet) (placing (a .answer))
     → Enters s (Sound c) a
 unfolding firstOf

@@ -11,7 +11,7 @@ use Rattle.guidance.specs.Ranges.{ranges, rangeAt}
 use Rattle.guidance.specs.Clouds.{rangeOf, groundFactor, leanBy, leanFactor, aerosolFactor, energy}
 use Rattle.guidance.specs.Distances.{less, metres, cubed, farther, cube24}
 use Rattle.refusals.specs.Order.{firstOf, held}
-use Rattle.fields.specs.Bytes.{fieldsOf}
+use Rattle.fields.specs.Bytes.{airIn, fieldsOf}
 use Rattle.limits.specs.Tests.{quantityOutside, heatMissing, valueTests, fieldTests}
 use Rattle.frame.specs.Tests.{frameTests}
 use Rattle.places.specs.declared.Held.{Held}
@@ -53,7 +53,7 @@ pub record Examples : Type 0 where
   pub places : after [] yard ≡ left
 
 pub examples : Examples
-unfolding answered after act adding found at trim ahead added withdrawn closed addTests ownTests firstOf held frameTests fieldTests valueTests quantityOutside heatMissing fieldsOf farther less cubed metres cube24 power whole _⊗_ energy groundFactor leanFactor leanBy decLe aerosolFactor heatOf betas betaOf rangeOf rangeAt ranges classOf
+unfolding answered after act adding found at trim ahead added withdrawn closed addTests ownTests firstOf held frameTests fieldTests valueTests quantityOutside heatMissing airIn fieldsOf farther less cubed metres cube24 power whole _⊗_ energy groundFactor leanFactor leanBy decLe aerosolFactor heatOf betas betaOf rangeOf rangeAt ranges classOf
 examples = record { answers = refl; places = refl }
 
 -- the totals, as the pump house is withdrawn, the gap closed, and the other two withdrawn

@@ -6,7 +6,7 @@ use mathlib.Core.Option.{Option, none}
 use Rattle.guidance.specs.declared.Case.{Case}
 use Rattle.guidance.specs.Cases.{Accepted}
 use Rattle.guidance.specs.CloudWords.{Heated}
-use Rattle.guidance.specs.Waves.{standardAir}
+use Rattle.guidance.specs.AirPressure.{airOf}
 use Rattle.guidance.specs.laws.Domain.{accepted}
 use Rattle.hexadecimals.specs.Digits.{bytesOf}
 use Rattle.refusals.specs.declared.Fault.{Fault}
@@ -28,7 +28,7 @@ use Rattle.sheet.specs.laws.Kept.{kept-adding, kept-without, kept-run}
 
 -- an accepted case, with an upper end of its own
 pub record RightlyHeld (h : Held) : Type 0 where
-  pub accepted : Accepted standardAir (h .case)
+  pub accepted : Accepted (airOf (h .case)) (h .case)
   pub end : UpperEnd (h .case) (h .upper)
 
 module _ (ts : List (Test Fault)) (c : Case) (u : ℕ) (xs : List (Option Held)) (heated : firstOf ts ≡ none → Heated c) where

@@ -1,20 +1,23 @@
 -- The bytes of places: how many, one place more, and read back. Assumes nothing.
 use Prim.Native.Nat.{ℕ, zero, suc, _+_, _*_, _^_, _<_}
 use mathlib.Core.Path.{_≡_, refl, sym, ap, _∙_}
+use mathlib.Core.Bool.{Bool, true, false, cond}
 use mathlib.Core.List.{List, [], _∷_, _++_, append-assoc, append-nil}
 use mathlib.Core.Option.{Option, none, some}
 use native.Mathlib.Omega.{arith}
 use lib.ListN.{length, take, drop, length-append}
 use lib.Seq.{take-at, drop-at, drop-drop}
-use borrow.Author.Tests.{eq-eqb, ne-eqb}
+use lib.Dec.{eqb}
+use borrow.Author.Tests.{eq-eqb, ne-eqb, eqb-true}
+use Rattle.guidance.specs.AirPressure.{standard, inAir}
 use Rattle.guidance.specs.Cases.{Fields}
 use Rattle.bytes.specs.Numbers.{oneAt, fourAt, one, two, four}
-use Rattle.bytes.specs.laws.Back.{four-back}
-use Rattle.fields.specs.Bytes.{fieldsOf, settings, frameBytes}
-use Rattle.fields.specs.laws.Back.{fields-again}
+use Rattle.bytes.specs.laws.Back.{two-back, four-back}
+use Rattle.fields.specs.Bytes.{fieldsOf, settings, firstBytes}
+use Rattle.fields.specs.laws.Back.{fields-in-air}
 use Rattle.places.specs.declared.Held.{Held}
 use Rattle.places.specs.Holes.{Each}
-use Rattle.sheet_bytes.specs.Packing.{placeBytes, packed, heldIn, unpacked}
+use Rattle.sheet_bytes.specs.Packing.{airWord, airOfWord, placeBytes, packed, caseIn, heldIn, unpacked}
 
 -- what its bytes have room for: fields in their values, an end below 2^32
 pub record Fits (h : Held) : Type 0 where
@@ -22,7 +25,7 @@ pub record Fits (h : Held) : Type 0 where
   pub upper : h .upper < 2 ^ 32
 
 pub length-place : (x : Option Held) → length (placeBytes x) ≡ 32
-unfolding placeBytes frameBytes settings one two four
+unfolding placeBytes firstBytes settings one two four
 length-place none = refl
 length-place (some h) = refl
 
@@ -59,7 +62,7 @@ hole-read place e = simp (eq-eqb (oneAt place 0) 0 e)
 pub case-read
     : (place : List ℕ) (h : Held) →
     (oneAt place 0 ≡ 0 → ⊥) →
-    h .case ≡ fieldsOf (take 22 (drop 1 place)) →
+    h .case ≡ caseIn place →
     h .upper ≡ fourAt place 23 →
     some h ≡ heldIn place
 unfolding heldIn
@@ -67,12 +70,31 @@ case-read place h e f g = rw (ne-eqb (oneAt place 0) 0 e) (λ k. some (record { 
 
 -- what was packed is read back
 
+word-back : (air : ℕ) → 0 < air → airOfWord (airWord air) ≡ air
+unfolding airOfWord airWord
+word-back air h = go (eqb air standard) refl
+  where
+    go : (b : Bool) → eqb air standard ≡ b → cond (eqb (cond b 0 air) 0) standard (cond b 0 air) ≡ air
+    go true e = sym (eqb-true air standard e)
+    go false e = simp (ne-eqb air 0 (λ z. omega arith))
+
+word-lt : (air : ℕ) → air < 2 ^ 16 → airWord air < 2 ^ 16
+unfolding airWord
+word-lt air h = go (eqb air standard)
+  where
+    go : (b : Bool) → cond b 0 air < 2 ^ 16
+    go true = omega arith
+    go false = h
+
 place-back : (x : Option Held) → (xs : List (Option Held)) → Each Fits (x ∷ xs) → (heldIn (placeBytes x) ≡ x) × Each Fits xs
-unfolding placeBytes frameBytes settings one two four Each
+unfolding placeBytes firstBytes settings one two four Each
 place-back none xs h = (sym (hole-read (placeBytes none) refl), h)
 place-back (some c) xs h =
-    let frame : fieldsOf (frameBytes (c .case)) ≡ c .case = fields-again (c .case) (h .0 .fields) in
-    (sym (case-read (placeBytes (some c)) c (λ e. omega arith) (sym frame) (sym (four-back (c .upper) (h .0 .upper)))), h .1)
+    let f = h .0 .fields in
+    let air = c .case .air in
+    let word = ap airOfWord (two-back (airWord air) (word-lt air (omega (arith, f .air-most)))) ∙ word-back air (omega (arith, f .air)) in
+    let case : caseIn (placeBytes (some c)) ≡ c .case = ap (inAir (fieldsOf (firstBytes (c .case)))) word ∙ fields-in-air (c .case) f [] in
+    (sym (case-read (placeBytes (some c)) c (λ e. omega arith) (sym case) (sym (four-back (c .upper) (h .0 .upper)))), h .1)
 
 pub unpack-packed : (xs : List (Option Held)) (rest : List ℕ) → Each Fits xs → unpacked (length xs) (packed xs ++ rest) ≡ xs
 unfolding unpacked packed

@@ -14,9 +14,9 @@ use Rattle.text.specs.Streams.{Sound, Stands, Reached}
 -- a stream stands at least for what it holds, so that no promise about what it stands for is empty
 pub stands-itself : (s : Stream) → Sound s → Stands s (s .lines) (take (s .held) (s .line))
 stands-itself s sound =
-    let few : length (take (s .held) (s .line)) ≤ 45
+    let few : length (take (s .held) (s .line)) ≤ 49
     = omega (arith, sound .within, sound .size, length-take-le (s .held) (s .line) (omega (arith, sound .within, sound .size))) in
-    record { sound = sound; counted = refl; held = sym (take-all 45 (take (s .held) (s .line)) few) }
+    record { sound = sound; counted = refl; held = sym (take-all 49 (take (s .held) (s .line)) few) }
 
 pub reached-none : (s : Stream) → Sound s → Reached s [] s
 unfolding ended left

@@ -6,29 +6,29 @@ use lib.ListN.{length}
 use Rattle.guidance.specs.declared.Case.{Case}
 use Rattle.guidance.specs.Cases.{Fields}
 use Rattle.limits.specs.declared.Checked.{Checked}
-use Rattle.writable.specs.Steps.{placed}
+use Rattle.to_old.specs.Steps.{judged}
 use Rattle.to_old.specs.laws.Verdicts.{frame-judged, frame-accepted}
 use Rattle.to_old.proofs.to_line.Statement.{statement}
 use Rattle.to_old.proofs.to_line.Tie as tie
 
 give-back-requires : tie.Need-give-back-requires
 give-back-requires c κs d e =
-    let p = c .before in
-    let a = p .before .before .before .before .args in
+    let j = c .before in
+    let a = j .before .before .before .before .args in
     let frame = now (a .frame) in
     let room = length (now (a .area)) in
-    let t = frame-accepted frame room d (sym (p .place .ensures ∙ ap (λ (s : Checked). placed s (λ (k : Case). 116) room) (p .before .check-frame .ensures) ∙ frame-judged frame room) ∙ e) in
+    let t = frame-accepted frame room d (sym (j .judge .ensures ∙ ap (λ (s : Checked). judged s room) (j .before .check-frame .ensures) ∙ frame-judged frame room) ∙ e) in
     (t .room-for, subst (λ (k : Case). Fields k) (sym (t .same)) (t .heated .fields))
 
 returns : tie.Need-returns
 returns c =
     let g = c .before .before in
-    let p = g .before .before in
-    let a = p .before .before .before .before .args in
-    let frame = now (a .frame) in
-    let room = length (now (a .area)) in
+    let j = g .before .before in
+    let s = j .before .before .before .before in
+    let frame = now (s .args .frame) in
+    let room = length (now (s .args .area)) in
     record {
-      verdict = g .give-back .ensures .verdict ∙ p .place .ensures ∙ ap (λ (s : Checked). placed s (λ (k : Case). 116) room) (p .before .check-frame .ensures) ∙ frame-judged frame room;
+      verdict = g .give-back .ensures .verdict ∙ j .judge .ensures ∙ ap (λ (q : Checked). judged q room) (j .before .check-frame .ensures) ∙ frame-judged frame room;
       area = g .give-back .ensures .area;
     }
 

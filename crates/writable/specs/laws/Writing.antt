@@ -1,9 +1,9 @@
 -- What was written of a case, from what its own tests found, and what is known of an accepted one. Assumes nothing.
 use Prim.Native.Nat.{ℕ, _≤_}
-use mathlib.Core.Path.{_≡_, refl, sym, ap, _∙_}
+use mathlib.Core.Path.{_≡_, refl, sym, ap, subst, _∙_}
 use mathlib.Core.Bool.{Bool, true, false, cond}
 use mathlib.Core.List.{List, _++_}
-use mathlib.Core.Option.{none}
+use mathlib.Core.Option.{Option, none, some}
 use native.Mathlib.Omega.{arith}
 use lib.Dec.{ltb}
 use lib.ListN.{length, take, drop}
@@ -21,32 +21,40 @@ use Rattle.writable.specs.declared.Verdict.{Verdict}
 use Rattle.writable.specs.declared.Verdict.the-variants.{Accepted, Refused}
 use Rattle.writable.specs.Verdicts.{writableVerdict}
 use Rattle.writable.specs.Writing.{withText, Writes}
-use Rattle.writable.specs.Steps.{placed, Written}
+use Rattle.writable.specs.Steps.{placed, neededFor, Written}
 use Rattle.writable.specs.laws.Verdicts.{space-last, accepted}
 
--- a text that has the same length of every case: what `place` gave for that length, u, is what the text asks for
-module _ (s : Checked) (needed room : ℕ) where
-  pub by-length : (text : Case → List ℕ) → ((c : Case) → length (text c) ≡ needed) → placed s (λ (c : Case). needed) room ≡ placed s (λ (c : Case). length (text c)) room
-  by-length text h = sym (λ k. placed s (λ (c : Case). h c k) room)
+-- what is needed decides by the case alone
+pub needed-alike : (o : Option Fault) (c : Case) (f g : Case → ℕ) (room : ℕ) → f c ≡ g c → placed (checkedBy o c) f room ≡ placed (checkedBy o c) g room
+needed-alike none c f g room e = ap (λ (n : ℕ). cond (ltb room n) (Refused Space) (Accepted c)) e
+needed-alike (some q) c f g room e = refl
 
-  pub has-room : {u : Verdict} {c : Case} → u ≡ placed s (λ (d : Case). needed) room → u ≡ Accepted c → needed ≤ room
-  has-room {u} {c} p e = go s (sym p ∙ e)
+-- what `place` gave for the bytes that are needed, u, is what the text asks for
+module _ (text : Case → List ℕ) (s : Checked) {needed : ℕ} (enough : needed ≡ neededFor text s) where
+  by-length : (room : ℕ) → placed s (λ (c : Case). needed) room ≡ placed s (λ (c : Case). length (text c)) room
+  by-length room = go s enough
     where
-      by : (d : Case) (b : Bool) → ltb room needed ≡ b → cond b (Refused Space) (Accepted d) ≡ Accepted c → needed ≤ room
-      by d true e h = let z : _≡_ {A = ℕ} 0 1 = cc in absurd (omega arith)
-      by d false e h = ltb-false room needed e
+      go : (t : Checked) → needed ≡ neededFor text t → placed t (λ (c : Case). needed) room ≡ placed t (λ (c : Case). length (text c)) room
+      go (Sound c) e = ap (λ (n : ℕ). cond (ltb room n) (Refused Space) (Accepted c)) e
+      go (Unsound f) e = refl
 
-      go : (t : Checked) → placed t (λ (d : Case). needed) room ≡ Accepted c → needed ≤ room
-      go (Sound d) h = by d (ltb room needed) refl h
+  pub has-room : (room : ℕ) {u : Verdict} {c : Case} → u ≡ placed s (λ (d : Case). needed) room → u ≡ Accepted c → length (text c) ≤ room
+  has-room room {u} {c} p e = go s (sym (by-length room) ∙ sym p ∙ e)
+    where
+      by : (d : Case) (b : Bool) → ltb room (length (text d)) ≡ b → cond b (Refused Space) (Accepted d) ≡ Accepted c → length (text c) ≤ room
+      by d true e h = let z : _≡_ {A = ℕ} 0 1 = cc in absurd (omega arith)
+      by d false e h = let same : d ≡ c = cc in subst (λ (k : Case). length (text k) ≤ room) same (ltb-false room (length (text d)) e)
+
+      go : (t : Checked) → placed t (λ (d : Case). length (text d)) room ≡ Accepted c → length (text c) ≤ room
+      go (Sound d) h = by d (ltb room (length (text d))) refl h
       go (Unsound f) h = let z : _≡_ {A = ℕ} 0 1 = cc in absurd (omega arith)
 
-pub told : {text : Case → List ℕ} {needed : ℕ} (s : Checked) (before : List ℕ) {u v : Verdict} {after : List ℕ}
-    → ((c : Case) → length (text c) ≡ needed)
-    → u ≡ placed s (λ (c : Case). needed) (length before)
-    → u ≡ v
-    → after ≡ withText text v before
-    → Written text s before v after
-told {text} {needed} s before h p e a = record { verdict = sym e ∙ p ∙ by-length s needed (length before) text h; area = a }
+  pub told : (before : List ℕ) {u v : Verdict} {after : List ℕ}
+      → u ≡ placed s (λ (c : Case). needed) (length before)
+      → u ≡ v
+      → after ≡ withText text v before
+      → Written text s before v after
+  told before p e a = record { verdict = sym e ∙ p ∙ by-length (length before); area = a }
 
 pub writes : {text : Case → List ℕ} (tests : List (Test Fault)) (c : Case) {s : Checked} {before after : List ℕ} {v : Verdict}
     → s ≡ checkedBy (firstOf tests) c

@@ -31,6 +31,8 @@ spelled-heated {c} h =
             distance-most = f .distance-most;
             body = f .body;
             body-most = f .body-most;
+            air = f .air;
+            air-most = f .air-most;
           };
       heat = omega (arith, keeps-heat (c .substance) (c .heat), h .heat);
     }
@@ -49,6 +51,7 @@ spelled-again c =
       heat = settled (c .substance) (c .heat) k;
       distance = c .distance;
       body = c .body;
+      air = c .air;
     }
 
 pub agree-spelled : {c d : Case} → Agree c d → asSpelled c ≡ asSpelled d
@@ -67,6 +70,7 @@ agree-spelled {c} {d} a =
       heat = heat k;
       distance = a .distance k;
       body = a .body k;
+      air = a .air k;
     }
 
 pub spelled-agree : {c d : Case} → asSpelled c ≡ asSpelled d → Agree c d
@@ -83,4 +87,5 @@ spelled-agree {c} {d} e =
       heat = sym (keeps-heat (c .substance) (c .heat)) ∙ (λ k. heatOf (e k .substance) (e k .heat)) ∙ keeps-heat (d .substance) (d .heat);
       distance = λ k. e k .distance;
       body = λ k. e k .body;
+      air = λ k. e k .air;
     }

@@ -11,7 +11,7 @@ use Rattle.hexadecimals.specs.Digits.{bytesOf}
 use Rattle.refusals.specs.declared.Fault.{Fault}
 use Rattle.refusals.specs.Order.{Test, firstOf}
 use Rattle.fields.specs.Bytes.{fieldsOf, frameBytes}
-use Rattle.fields.specs.laws.Back.{frame-length, fields-again}
+use Rattle.fields.specs.laws.Back.{standard-length, other-length, fields-again}
 use Rattle.limits.specs.Tests.{fieldTests}
 use Rattle.limits.specs.laws.Fields.{heated-passes}
 use Rattle.limits.specs.laws.Checks.{heated-by}
@@ -27,7 +27,7 @@ use Rattle.writing.specs.Spelling.{asSpelled, spelling, Agree}
 use Rattle.writing.specs.Entries.{FromFields, SpellsFrame}
 use Rattle.writing.specs.OneSpelling.{SpellingOf, FrameOf, OneSpelling}
 use Rattle.writing.specs.laws.Cases.{spelled-agree, spelled-again}
-use Rattle.writing.specs.laws.Spellings.{spelling-length, bytes-read, bytes-pass, line-passes, spelling-again, agree-one, one-agree}
+use Rattle.writing.specs.laws.Spellings.{short-spelling, long-spelling, bytes-read, bytes-pass, line-passes, spelling-again, agree-one, one-agree}
 
 frame-read : (c d : Case) (before after : List ℕ) → FromFields c before (Accepted d) after → (d ≡ c) × FrameOf c (take (length (frameBytes c)) after)
 frame-read c d before after w =
@@ -75,7 +75,8 @@ spelled-frame frame before after c w = written-spelling (frameTests frame) (fiel
 pub one-spelling : OneSpelling
 one-spelling =
     record {
-      lengths = λ c. (frame-length c, spelling-length c);
+      standard-lengths = λ c e. (standard-length c e, short-spelling c e);
+      other-lengths = λ c e. (other-length c e, long-spelling c e);
       frame-written = frame-read;
       frame-spelled = spelled-frame;
       line-spelled = λ line before after c w. written-spelling (lineTests line) (fieldsOf (bytesOf line)) (λ p. line-clear line p .2) w;

@@ -1,10 +1,13 @@
 -- A spelling read back: as bytes, as a line, as a case. Assumes nothing.
 use Prim.Native.Nat.{ℕ, _*_}
-use mathlib.Core.Path.{_≡_, sym, ap, _∙_}
-use mathlib.Core.Bool.{true}
+use mathlib.Core.Path.{_≡_, refl, sym, ap, _∙_}
+use mathlib.Core.Bool.{Bool, true, false}
 use mathlib.Core.Option.{none}
+use lib.Dec.{eqb}
 use lib.ListN.{length}
+use borrow.Author.Tests.{eqb-true, eqb-false}
 use Rattle.guidance.specs.declared.Case.{Case}
+use Rattle.guidance.specs.AirPressure.{standard}
 use Rattle.guidance.specs.CloudWords.{Heated}
 use Rattle.hexadecimals.specs.Digits.{allDigits, bytesOf}
 use Rattle.hexadecimals.specs.Written.{digitsOf}
@@ -12,16 +15,36 @@ use Rattle.hexadecimals.specs.laws.Writing.{length-digits}
 use Rattle.hexadecimals.specs.laws.Written.{bytes-of-digits, all-digits}
 use Rattle.refusals.specs.Order.{firstOf}
 use Rattle.fields.specs.Bytes.{fieldsOf, frameBytes}
-use Rattle.fields.specs.laws.Back.{frame-length, frame-bytes, fields-again}
+use Rattle.fields.specs.laws.Back.{frame-length, standard-length, other-length, frame-bytes, fields-again}
 use Rattle.limits.specs.laws.Fields.{heated-passes}
-use Rattle.frame.specs.Tests.{frameTests, lineTests}
+use Rattle.frame.specs.Tests.{either, frameTests, lineTests}
+use Rattle.frame.specs.laws.Lengths.{is-first, is-second}
 use Rattle.frame.specs.laws.Checks.{frame-passes, line-frame}
 use Rattle.writing.specs.Spelling.{asSpelled, spelling, Agree}
 use Rattle.writing.specs.laws.Cases.{spelled-heated, spelled-again, agree-spelled, spelled-agree}
 
-pub spelling-length : (c : Case) → length (spelling c) ≡ 44
+-- the case as it is spelled has the frame's length
+spelled-length : (c : Case) → length (frameBytes (asSpelled c)) ≡ length (frameBytes c)
+unfolding asSpelled
+spelled-length c = frame-length (asSpelled c) ∙ sym (frame-length c)
+
+pub spelling-length : (c : Case) → length (spelling c) ≡ 2 * length (frameBytes c)
 unfolding spelling
-spelling-length c = length-digits (frameBytes (asSpelled c)) ∙ ap (λ (n : ℕ). 2 * n) (frame-length (asSpelled c))
+spelling-length c = length-digits (frameBytes (asSpelled c)) ∙ ap (λ (n : ℕ). 2 * n) (spelled-length c)
+
+-- 44 characters in the standard air, 48 in another
+pub short-spelling : (c : Case) → c .air ≡ standard → length (spelling c) ≡ 44
+short-spelling c e = spelling-length c ∙ ap (λ (n : ℕ). 2 * n) (standard-length c e)
+
+pub long-spelling : (c : Case) → (c .air ≡ standard → ⊥) → length (spelling c) ≡ 48
+long-spelling c e = spelling-length c ∙ ap (λ (n : ℕ). 2 * n) (other-length c e)
+
+spelling-either : (c : Case) → either 44 48 (spelling c) ≡ true
+spelling-either c = go (eqb (c .air) standard) refl
+  where
+    go : (b : Bool) → eqb (c .air) standard ≡ b → either 44 48 (spelling c) ≡ true
+    go true e = is-first 44 48 (spelling c) (short-spelling c (eqb-true (c .air) standard e))
+    go false e = is-second 44 48 (spelling c) (long-spelling c (eqb-false (c .air) standard e))
 
 spelling-bytes : (c : Case) → bytesOf (spelling c) ≡ frameBytes (asSpelled c)
 unfolding spelling
@@ -41,7 +64,7 @@ module _ {c : Case} (h : Heated c) where
   bytes-pass = let s = spelled-heated h in rw (spelling-bytes c) (frame-passes (s .fields) (heated-passes s))
 
   pub line-passes : firstOf (lineTests (spelling c)) ≡ none
-  line-passes = line-frame (spelling c) (spelling-length c) (spelling-digits c) ∙ bytes-pass
+  line-passes = line-frame (spelling c) (spelling-either c) (spelling-digits c) ∙ bytes-pass
 
 pub spelling-again : (c : Case) → spelling (asSpelled c) ≡ spelling c
 unfolding spelling

@@ -3,6 +3,7 @@ use Prim.Native.Nat.{ℕ, _*_}
 use mathlib.Core.Path.{_≡_, refl}
 use Rattle.exact.specs.Fraction.{whole, _⊗_}
 use Rattle.guidance.specs.declared.Case.{Case}
+use Rattle.guidance.specs.AirPressure.{airOf}
 use Rattle.guidance.specs.Clouds.{rangeOf, groundFactor, leanFactor, aerosolFactor, energy}
 use Rattle.guidance.specs.Distances.{metres, cubed, nearer, farther, cube24}
 use Rattle.guidance.specs.Waves.{reducedDistance, nearField, detonationPressure, detonationImpulse, frontSpeed, machNumber, expansion, deflagrationDistance, deflagrationPressure, deflagrationImpulse, reducedPressure, reducedImpulse, inPascalSeconds, overpressure, impulse}
@@ -28,17 +29,18 @@ module _ (air : ℕ) (c : Case) where
   unfolding asSpelled impulse inPascalSeconds reducedImpulse deflagrationImpulse detonationImpulse nearField nearer cubed metres deflagrationDistance reducedDistance machNumber frontSpeed expansion rangeOf
   same-impulse = rw (spelled-energy c) refl
 
-  pub same-values : SameValues air (asSpelled c) c
-  unfolding asSpelled rangeOf probit1 probit2 probit3 probit4 probit5
-  same-values =
-      record {
-        range = refl;
-        beyond = same-beyond;
-        overpressure = same-overpressure;
-        impulse = same-impulse;
-        probit1 = λ k. probit1At (same-overpressure k) (same-impulse k);
-        probit2 = λ k. probit2At (same-overpressure k) (same-impulse k);
-        probit3 = λ k. probit3At air (c .body) (same-overpressure k) (same-impulse k);
-        probit4 = λ k. probit4At (same-overpressure k);
-        probit5 = λ k. probit5At (same-overpressure k) (same-impulse k);
-      }
+pub same-values : (c : Case) → SameValues (asSpelled c) c
+unfolding asSpelled rangeOf probit1 probit2 probit3 probit4 probit5
+same-values c =
+    let air = airOf c in
+    record {
+      range = refl;
+      beyond = same-beyond air c;
+      overpressure = same-overpressure air c;
+      impulse = same-impulse air c;
+      probit1 = λ k. probit1At (same-overpressure air c k) (same-impulse air c k);
+      probit2 = λ k. probit2At (same-overpressure air c k) (same-impulse air c k);
+      probit3 = λ k. probit3At air (c .body) (same-overpressure air c k) (same-impulse air c k);
+      probit4 = λ k. probit4At (same-overpressure air c k);
+      probit5 = λ k. probit5At (same-overpressure air c k) (same-impulse air c k);
+    }

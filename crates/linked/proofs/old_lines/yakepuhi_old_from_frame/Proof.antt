@@ -2,8 +2,8 @@
 use mathlib.Core.Path.{ap, _∙_}
 use denote.Ref.{now}
 use borrow.Author.Needs.{needs}
-use Rattle.writable.specs.declared.Verdict.{Verdict}
-use Rattle.writable.specs.Refusals.{code}
+use Rattle.to_old.specs.declared.Verdict.{Verdict}
+use Rattle.to_old.specs.Refusals.{code}
 use Rattle.to_old.specs.Entry.{withLine}
 use Rattle.linked.proofs.old_lines.yakepuhi_old_from_frame.Statement.{statement}
 use Rattle.linked.proofs.old_lines.yakepuhi_old_from_frame.Tie as tie
