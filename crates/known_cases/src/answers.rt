@@ -17,7 +17,7 @@ pub(crate) fn answer_to_frame(frame: &[u8], area: &mut [u8], room: usize) -> u64
     frame::code_of(answer::from_frame(frame, &mut area[..room]))
 }
 
-// The same for the frame that a line spells, if it spells one.
+// The same for the frame that a line spells, if it spells one in these bytes.
 fn answer_to_spelled(line: &[u8], frame: &mut [u8], area: &mut [u8], room: usize) -> u64
     requires { ⌜ (length (now frame) ≤ 24) × (room ≤ length (now area)) ⌝ }
 {
@@ -28,7 +28,7 @@ fn answer_to_spelled(line: &[u8], frame: &mut [u8], area: &mut [u8], room: usize
     }
 }
 
-// In 24 bytes of a line of 48 characters, in 22 of any other.
+// A frame has 24 bytes of a line of 48 characters, 22 of any other.
 pub(crate) fn answer_as_frame(line: &[u8], area: &mut [u8], room: usize) -> u64
     requires { ⌜ room ≤ length (now area) ⌝ }
 {

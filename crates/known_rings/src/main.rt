@@ -40,7 +40,7 @@ fn show_spelled(line: &[u8], frame: &mut [u8], threshold: u64)
     }
 }
 
-// In 24 bytes of a line of 48 characters, in 22 of any other.
+// A frame has 24 bytes of a line of 48 characters, 22 of any other.
 fn show_frame(line: &[u8], threshold: u64) {
     let mut frame = [0u8; 24];
     if line.len() == 48 {

@@ -22,7 +22,7 @@ use Rattle.ring.specs.declared.Refusal.the-variants.{Faulty, Threshold, 
 use Rattle.ring.specs.declared.Answer.{Answer}
 use Rattle.ring.specs.declared.Answer.the-variants.{Ring, Refused}
 
--- test 9: a threshold is 1 to 18·P0 Pa, which is 1,823,400 at 101,300 (request 11)
+-- test 9: a threshold is 1 to 18·P0 Pa by the case's own P0 (request 11), which is 1,823,400 at 101,300
 unfoldable pub lastTests : (air t : ℕ) → List (Test Refusal)
 lastTests air t = (Threshold when outside 1 (18 * air) t) ∷ []
 

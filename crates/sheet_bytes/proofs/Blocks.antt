@@ -5,7 +5,7 @@ use mathlib.Core.List.{List, _++_}
 use mathlib.Core.Option.{some}
 use native.Mathlib.Omega.{arith}
 use lib.ListN.{length, drop, replicate, length-append}
-use lib.Seq.{sets, length-sets}
+use lib.Seq.{length-sets}
 use borrow.Rule.Slice.PartMut.{midOf, putMid}
 use Rattle.bytes.specs.Numbers.{one, two, four, eight}
 use Rattle.bytes.specs.Storing.{Stored}

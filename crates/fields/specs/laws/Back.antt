@@ -165,12 +165,12 @@ fields-in-air c f rest =
       air = c .air;
     }
 
-own-air : (c : Case) → c ≡ inAir c (c .air)
+in-its-own-air : (c : Case) → c ≡ inAir c (c .air)
 unfolding inAir
-own-air c = refl
+in-its-own-air c = refl
 
 with-air : (c : Case) → Fields c → (air : List ℕ) → airIn (firstBytes c ++ air) ≡ c .air → fieldsOf (firstBytes c ++ air) ≡ c
-with-air c f air e = let d = fieldsOf (firstBytes c ++ air) in own-air d ∙ ap (inAir d) (air-of-fields (firstBytes c ++ air) ∙ e) ∙ fields-in-air c f air
+with-air c f air e = let d = fieldsOf (firstBytes c ++ air) in in-its-own-air d ∙ ap (inAir d) (air-of-fields (firstBytes c ++ air) ∙ e) ∙ fields-in-air c f air
 
 none-read : (c : Case) → airIn (firstBytes c ++ []) ≡ standard
 unfolding airIn firstBytes settings one two four

@@ -13,7 +13,7 @@ judged-promised lower upper h = omega (arith, leb-true (100000 * upper) (200000 
 pub promised-judged : (lower upper : ℕ) → Closed lower upper → closed lower upper ≡ true
 promised-judged lower upper h = le-leb (100000 * upper) (200000 + lower + 100000 * lower) (omega (arith, h))
 
--- at most 2 apart below 100,000, 3 at 100,000, 20 at 18 × 101,300 Pa
+-- at most 2 apart below 100,000, 3 at 100,000, 20 at 18 × 101,300 Pa, 21 at 18 × 110,000 Pa
 pub record Borders : Type 0 where
   pub least : Closed 0 2
   pub least-over : Closed 0 3 → ⊥
@@ -23,6 +23,8 @@ pub record Borders : Type 0 where
   pub from-over : Closed 100000 100004 → ⊥
   pub near-field : Closed 1823400 1823420
   pub near-field-over : Closed 1823400 1823421 → ⊥
+  pub densest : Closed 1980000 1980021
+  pub densest-over : Closed 1980000 1980022 → ⊥
 
 pub borders : Borders
 borders =
@@ -35,4 +37,6 @@ borders =
       from-over = λ h. absurd (omega (arith, h));
       near-field = omega arith;
       near-field-over = λ h. absurd (omega (arith, h));
+      densest = omega arith;
+      densest-over = λ h. absurd (omega (arith, h));
     }

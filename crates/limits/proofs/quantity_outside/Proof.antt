@@ -1,5 +1,5 @@
 -- `limits::quantity_outside` meets its contract: one of six answers, else that of the air pressure. Assumes nothing.
-use mathlib.Core.Path.{_≡_, refl, sym, _∙_}
+use mathlib.Core.Path.{_≡_, sym, _∙_}
 use mathlib.Core.Bool.{Bool, true, false, _||_}
 use borrow.Author.Needs.{needs}
 use Rattle.guidance.specs.declared.Case.{Case}

@@ -19,7 +19,6 @@ use Rattle.fields.specs.Bytes.{fieldsOf, frameBytes}
 use Rattle.fields.specs.laws.Back.{standard-length, standard-in, air-of-fields, frame-bytes, frame-again, shorter-again, fields-again}
 use Rattle.limits.specs.Tests.{valueTests, heatTests, fieldTests}
 use Rattle.limits.specs.laws.Checks.{none-lost, heat-clear, heated-by}
-use Rattle.frame.specs.Tests.{frameTests}
 use Rattle.frame.specs.laws.Checks.{frame-case, frame-passes, frame-clear}
 use Rattle.old_case.specs.declared.OldCase.{OldCase}
 use Rattle.old_case.specs.Cases.{unusableIn, caseOf, lostHeat, oldCaseOf}

@@ -1,5 +1,4 @@
 -- `probits::lung_pressure` meets its contract. Assumes nothing.
-use native.Mathlib.Omega.{arith}
 use borrow.Author.Needs.{needs}
 use Rattle.probits.proofs.Sums.{lung-divides, lung-summands, lung-divides-again, lung-of}
 use Rattle.probits.proofs.lung_pressure.Statement.{statement}

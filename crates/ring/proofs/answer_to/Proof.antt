@@ -1,7 +1,5 @@
 -- `ring::answer_to` meets its contract: what tests 1 to 6 found stands, else the ring in the case's own air. Assumes nothing.
 use mathlib.Core.Path.{refl}
-use Rattle.guidance.specs.declared.Case.{Case}
-use Rattle.guidance.specs.CloudWords.{Heated}
 use Rattle.guidance.specs.laws.Domain.{own-air}
 use borrow.Author.Needs.{needs}
 use Rattle.ring.proofs.answer_to.Statement.{statement}

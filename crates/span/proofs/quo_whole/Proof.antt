@@ -2,8 +2,6 @@
 use Prim.Native.Nat.{ℕ}
 use mathlib.Core.Path.{sym, subst}
 use native.Mathlib.Omega.{arith}
-use borrow.Author.Needs.{needs}
-use Rattle.span.specs.declared.Span.{Span}
 use Rattle.span.specs.Spans.{Whole}
 use Rattle.span.proofs.quo_whole.Statement.{statement}
 use Rattle.span.proofs.quo_whole.Tie as tie

@@ -48,12 +48,12 @@ point-wholes {a} {n} {l} {u} p f c =
     let most : u < n + 1 = lt-of-mul-lt-mul-right unit (omega (arith, p .high, c .near)) in
     (omega arith, omega arith)
 
--- 18 × 101,300, as in the near field of a detonation
+-- 18·P0, as in the near field of a detonation, in every permitted air
 abbrev eighteen : Span
 eighteen = record { lo = 1207959552; hi = 1207959552; e = 998 }
 
-pub near-field : {p r : Span} {l u : ℕ} → Whole 101300 p → Product eighteen p r → Floor r l → Ceiling r u → (l ≡ 1823400) × (u ≡ 1823400)
-near-field {p} {r} w x f c =
+pub near-field : {p r : Span} {l u n : ℕ} → 0 < n → n ≤ 110000 → Whole n p → Product eighteen p r → Floor r l → Ceiling r u → (l ≡ 18 * n) × (u ≡ 18 * n)
+near-field {p} {r} z h w x f c =
     let q : Point eighteen 18 = record { low = scaled-by 18 26 998 refl; high = scaled-by 18 26 998 refl } in
     let few : p .e ≤ 1010 = w .most 17 (omega arith) in
     let fits : r .e ≤ 1024 = omega (arith, x .most) in

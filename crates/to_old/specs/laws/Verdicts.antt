@@ -1,11 +1,9 @@
 -- The verdict on a frame that goes back, and what is known of an accepted one. Assumes nothing.
 use Prim.Native.Nat.{ℕ, _≤_}
 use mathlib.Core.Path.{_≡_, refl, sym, ap, _∙_}
-use mathlib.Core.Bool.{Bool, true, false, not}
 use mathlib.Core.List.{List, _++_}
 use mathlib.Core.Option.{Option, none, some}
 use native.Mathlib.Omega.{arith}
-use lib.Dec.{eqb}
 use borrow.Author.Tests.{eqb-true, eq-eqb, ne-eqb, not-false, le-ltb, ltb-false}
 use Rattle.guidance.specs.declared.Case.{Case}
 use Rattle.guidance.specs.AirPressure.{standard}
@@ -13,7 +11,7 @@ use Rattle.guidance.specs.CloudWords.{Heated}
 use Rattle.refusals.specs.declared.Fault.{Fault}
 use Rattle.refusals.specs.declared.Fault.the-variants.{Digit}
 use Rattle.refusals.specs.Order.{firstOf, held}
-use Rattle.refusals.specs.laws.Order.{orElse, first-held, neither-found, passed, applies, absent}
+use Rattle.refusals.specs.laws.Order.{orElse, first-held, neither-found, passed, absent}
 use Rattle.fields.specs.Bytes.{fieldsOf}
 use Rattle.limits.specs.Tests.{valueTests, fieldTests}
 use Rattle.limits.specs.Checks.{checkedBy}
