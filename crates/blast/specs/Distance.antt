@@ -1,6 +1,6 @@
 -- The reduced distance Rx = r/(E/P0)^(1/3): where the exact test on its cube says that it is not nearer than T, its N-th brackets lie
 -- between a little below T and 24.1, for every N from 59 on; and so do the ends of a span around them. Assumes nothing.
-use Prim.Native.Nat.{ℕ, zero, suc, _-_, _≤_}
+use Prim.Native.Nat.{ℕ, zero, suc, _≤_}
 use mathlib.Core.Path.{_≡_}
 use mathlib.Core.Bool.{false}
 use mathlib.Core.Option.{some}
@@ -11,10 +11,8 @@ use Rattle.exact.specs.Formula.{div, bracketAt, powerOf}
 use Rattle.exact.specs.laws.Ratio.{≼-refl, ≼-trans, to≼, from≼, ⊗-mono}
 use Rattle.exact.specs.laws.Width.{half}
 use Rattle.exact.specs.laws.ExpSpread.{slack}
-use Rattle.exact.specs.laws.EndsMeet.{ofRatio-mono}
 use Rattle.exact.specs.laws.Containment.{Inside}
-use Rattle.exact.specs.laws.Inclusion.{div-inside}
-use Rattle.exact.specs.laws.Points.{point, pair, point-inside, signed-above, signed-product, product-signed, positive-of, inverse-least, inverse-most}
+use Rattle.exact.specs.laws.Points.{pair}
 use Rattle.exact.specs.laws.Quotient.{cube-root-quotient}
 use Rattle.guidance.specs.declared.Case.{Case}
 use Rattle.guidance.specs.Clouds.{over}
@@ -22,35 +20,20 @@ use Rattle.guidance.specs.Distances.{metres, nearer, cube02, cube025, cube034, 
 use Rattle.guidance.specs.Waves.{number, raised, thousandths, reducedDistance}
 use Rattle.guidance.specs.Cases.{Air, Accepted}
 use Rattle.guidance.specs.laws.Domain.{heated, air-above, perAir, perAir-above, perAir-least, perAir-most, cube-least, cube-most, cube-is-02, cube-is-025, cube-is-034, cube-is-24}
-use Rattle.exact.specs.laws.Replacing.{Within, const-within, within-refl, mul-within, div-within, ln-within, exp-within, within-inside}
+use Rattle.exact.specs.laws.Replacing.{Within, value-within, ratio-within, within-refl, mul-within, div-within, ln-within, exp-within, within-inside}
 
 -- E/P0 is a fraction
 
--- x/y as one constant
-ratio-within : (x y : Ratio) (h : Above0 y) (n : ℕ) → Within (div (number x) (number y)) (number (x ⊗ recip y h)) n
-unfolding bracketAt
-ratio-within x y h n =
-    record {
-      inside =
-          div-inside (number x) (number y) n (point (ofRatio x)) (point (ofRatio y)) (point (ofRatio (recip y h))) (point (ofRatio (x ⊗ recip y h)))
-          (point-inside (ofRatio x) n) (point-inside (ofRatio y) n) (positive-of y h) (positive-of y h) (inverse-least y h) (inverse-most y h)
-          (signed-above x) (signed-above (recip y h)) (signed-product x (recip y h)) (product-signed x (recip y h));
-    }
-
-third-least : third ≼ over 1 3 (omega arith)
+third-is : over 1 3 (omega arith) ≈ third
 unfolding third oneOver
-third-least = omega arith
-
-third-most : over 1 3 (omega arith) ≼ third
-unfolding third oneOver
-third-most = omega arith
+third-is = omega arith
 
 -- r/(x/y)^(1/3), with x/y as one constant
 quotient-within : (r x y : Ratio) (h : Above0 y) (k : ℕ)
     → Within (div (number r) (raised (over 1 3 (omega arith)) (div (number x) (number y)))) (div (number r) (powerOf (ofRatio third) (number (x ⊗ recip y h)))) (suc k)
 quotient-within r x y h k =
     div-within (within-refl (number r) (suc k))
-    (exp-within (mul-within (const-within (ofRatio-mono third-least) (ofRatio-mono third-most) (suc k)) (ln-within (ratio-within x y h (suc k)))))
+    (exp-within (mul-within (value-within third-is (suc k)) (ln-within (ratio-within x y h (suc k)))))
 
 -- The brackets of Rx
 

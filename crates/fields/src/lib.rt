@@ -23,6 +23,8 @@ pub fn read(frame: &[u8]) -> Case
     requires { ⌜ 22 ≤ length (now frame) ⌝ }
     ensures { λ r. ⌜ r ≡ fieldsOf (now (frame .entry)) ⌝ }
 {
+    // first: a branch behind the other fields keeps their bytes from being loaded as words
+    let air = air_in(frame);
     Case {
         substance: bytes::one_at(frame, 0),
         state: bytes::one_at(frame, 1),
@@ -34,7 +36,7 @@ pub fn read(frame: &[u8]) -> Case
         heat: bytes::four_at(frame, 12),
         distance: bytes::four_at(frame, 16),
         body: bytes::two_at(frame, 20),
-        air: air_in(frame),
+        air,
     }
 }
 

@@ -8,4 +8,5 @@ pub mod Waves
 pub mod Probits
 pub mod Cases
 pub mod CloudWords
+pub mod CaseQ
 pub mod laws

@@ -7,4 +7,5 @@ pub mod Order
 pub mod Comparisons
 pub mod Domain
 pub mod Units
+pub mod Metres
 pub mod Known

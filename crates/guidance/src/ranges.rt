@@ -2,9 +2,10 @@
 ghost use mathlib.Core.Path.{_≡_};
 ghost use Prim.Native.Nat.{_≤_};
 ghost use Rattle.guidance.specs.Ranges.{rangeAt};
+use crate::arithmetic;
 
-// A row for each class, a column for each surroundings, both 1 to 4 (003, Table 2).
-const RANGES: [[u64; 4]; 4] = [
+// A row for each class, a column for each surroundings, both 1 to 4 (003, Table 2). Of u16, since the table is laid on the stack at each use.
+const RANGES: [[u16; 4]; 4] = [
     // class 1
     [1, 1, 2, 3],
     // class 2
@@ -21,5 +22,5 @@ pub fn range_at(class: u64, surroundings: u64) -> u64
 {
     let row = (class - 1) as usize;
     let column = (surroundings - 1) as usize;
-    RANGES[row][column]
+    arithmetic::widened(RANGES[row][column])
 }

@@ -4,7 +4,6 @@ use mathlib.Core.Path.{_≡_, refl, sym, ap, _∙_}
 use mathlib.Core.Bool.{true}
 use mathlib.Core.List.{List, [], _∷_, _++_}
 use mathlib.Core.Option.{Option, none, some, Option·none-ne-some}
-use native.Mathlib.Decide.{decLe}
 use native.Mathlib.Omega.{arith}
 use lib.ListN.{length}
 use lib.Seq.{sets}
@@ -119,15 +118,14 @@ module _ (frame s : List ℕ) (place : ℕ) (b t : Sheet) (p : Placing) (same : 
       short-judged (frameTests frame) (fieldsOf frame) u s p h
       (answered ∙ ap (λ (xs : List (Option Held)). adding (firstOf (sheets.addTests (frameTests frame) (fieldsOf frame) xs)) xs (heldOf (fieldsOf frame) u) .told) none-yet)
 
-  pub add-refused : (r : Refusal) → p ≡ placed.Refused r → Adds frame s place (number r) s place
-  add-refused r e = go (decLe size (length s))
-    where
-      go : Dec (size ≤ length s) → Adds frame s place (number r) s place
-      go (yes h) = keeps (number r) (first call s b t (placing p) h same (adds .does) ∙ ap (λ (q : Placing). refusal (placing q)) e)
-      go (no h) = keeps (number r) (too-few (omega arith) ∙ ap shortRefusal e)
+  pub short-refused : (r : Refusal) → p ≡ placed.Refused r → length s < size → Adds frame s place (number r) s place
+  short-refused r e h = keeps (number r) (too-few h ∙ ap shortRefusal e)
 
-  pub add-short : (k : ℕ) → p ≡ placed.At k → length s < size → Adds frame s place space s place
-  add-short k e h = keeps space (too-few h ∙ ap shortRefusal e)
+  pub short-placed : (k : ℕ) → p ≡ placed.At k → length s < size → Adds frame s place space s place
+  short-placed k e h = keeps space (too-few h ∙ ap shortRefusal e)
+
+  pub add-refused : (r : Refusal) → p ≡ placed.Refused r → size ≤ length s → Adds frame s place (number r) s place
+  add-refused r e h = keeps (number r) (first call s b t (placing p) h same (adds .does) ∙ ap (λ (q : Placing). refusal (placing q)) e)
 
   pub add-accepted : (k : ℕ) → p ≡ placed.At k → size ≤ length s → (after : List ℕ) → after ≡ sets s 0 (sheetBytes (standsFor (t .places)))
       → Adds frame s place 0 after k

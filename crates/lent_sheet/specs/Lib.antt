@@ -1,3 +1,4 @@
 pub mod Calls
 pub mod Runs
+pub mod Steps
 pub mod laws

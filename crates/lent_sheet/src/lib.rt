@@ -1,9 +1,12 @@
 // A study sheet that a caller lends as bytes, all zero when empty.
 // Each call unpacks the sheet, acts on it and packs it again; a refusal changes nothing that is lent.
 ghost use mathlib.Core.Path.{_≡_};
-ghost use Rattle.sheet_bytes.specs.Packing.{lent};
+ghost use Prim.Native.Nat.{_≤_};
+ghost use lib.ListN.{length};
+ghost use Rattle.sheet_bytes.specs.Packing.{size, lent};
 ghost use Rattle.sheet.specs.Operations.{listOf};
 ghost use Rattle.lent_sheet.specs.Calls.{withdraw as withdrawing, close as closing, Adds, Acts, Shows, Totalled};
+ghost use Rattle.lent_sheet.specs.Steps.{AddsNowhere};
 use sheet::Found;
 use sheet::Placing;
 use sheet::Sheet;
@@ -13,22 +16,36 @@ use totals::Totals;
 // Too few bytes are lent.
 const SPACE: u64 = 8;
 
-// The sheet that lent bytes stand for: the empty one where they are too few. Its totals are not worked, since no call but the last shows them.
+// The sheet that lent bytes stand for. Its totals are not worked, since no call but the last shows them.
 fn read(s: &[u8]) -> Sheet
+    requires { ⌜ size ≤ length (now s) ⌝ }
     ensures { λ r. ⌜ listOf r ≡ lent (now (s .entry)) ⌝ }
 {
-    if s.len() < SIZE {
-        return Sheet::empty();
-    }
     let places = sheet_bytes::unpack(s);
     let totals = Totals::none();
     Sheet { places, totals }
+}
+
+// The number of a call that adds where too few bytes are lent: tests 1 to 7 come before 8.
+fn refused_short(frame: &[u8]) -> u64
+    ensures { λ n. ⌜ AddsNowhere (now (frame .entry)) n ⌝ }
+{
+    let empty = Sheet::empty();
+    let added = empty.add_frame(frame);
+    let answer = added.answer;
+    match answer {
+        Placing::Refused(r) => sheet::number_of(r),
+        Placing::At(_) => SPACE,
+    }
 }
 
 // The case of a frame's bytes, right after the last one.
 pub fn add(s: &mut [u8], frame: &[u8], place: &mut u64) -> u64
     ensures { λ n. ⌜ Adds (now (frame .entry)) (now (s .entry)) (now (place .entry)) n (now (s .exit)) (now (place .exit)) ⌝ }
 {
+    if s.len() < SIZE {
+        return refused_short(frame);
+    }
     let before = read(s);
     let added = before.add_frame(frame);
     let answer = added.answer;
@@ -36,9 +53,6 @@ pub fn add(s: &mut [u8], frame: &[u8], place: &mut u64) -> u64
     match answer {
         Placing::Refused(r) => sheet::number_of(r),
         Placing::At(k) => {
-            if s.len() < SIZE {
-                return SPACE;
-            }
             sheet_bytes::pack(s, after.places);
             *place = k as u64;
             0

@@ -23,16 +23,21 @@ fn as_spelled(c: Case) -> Case
     }
 }
 
-// The spelling of a case, into the area's first bytes.
+// The spelling of a case, into the area's first bytes. Each length has its own array, so that the loop over it is unrolled.
 fn put_spelling(area: &mut [u8], c: Case)
     requires { ⌜ length (spelling c) ≤ length (now area) ⌝ }
     ensures { λ _. ⌜ now (area .exit) ≡ sets (now (area .entry)) 0 (spelling c) ⌝ }
 {
     let spelled = as_spelled(c);
-    let n = fields::size_of(spelled);
-    let mut frame = [0u8; 24];
-    fields::write(&mut frame, spelled);
-    hexadecimals::write(&frame[..n], area);
+    if spelled.air == guidance::STANDARD {
+        let mut frame = [0u8; 22];
+        fields::write(&mut frame, spelled);
+        hexadecimals::write(&frame, area);
+    } else {
+        let mut frame = [0u8; 24];
+        fields::write(&mut frame, spelled);
+        hexadecimals::write(&frame, area);
+    }
 }
 
 // The characters of the spelling of a case that passed its own tests.

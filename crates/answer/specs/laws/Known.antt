@@ -15,7 +15,8 @@ use Rattle.guidance.specs.Ranges.{ranges, rangeAt}
 use Rattle.guidance.specs.Clouds.{rangeOf, groundFactor, leanBy, leanFactor, aerosolFactor, energy}
 use Rattle.guidance.specs.Distances.{less, metres, cubed, nearer, farther, cube02, cube24}
 use Rattle.guidance.specs.Waves.{reducedPressure, overpressure}
-use Rattle.guidance.specs.laws.Known.{qIn, FirstIs, point-holds, FirstsIn, in-standard, range-of}
+use Rattle.guidance.specs.CaseQ.{qIn}
+use Rattle.guidance.specs.laws.Known.{FirstIs, point-holds, FirstsIn, firsts-in, range-of}
 use Rattle.refusals.specs.Order.{firstOf, held}
 use Rattle.fields.specs.Bytes.{airIn, fieldsOf}
 use Rattle.limits.specs.Tests.{quantityOutside, heatMissing, valueTests, fieldTests}
@@ -37,25 +38,28 @@ around f b =
     (omega (arith, low .cross), omega (arith, high .cross))
 
 -- of Q as a frame has it, c
-module _ {heat air : ℕ} (f : FirstsIn heat air) (c : Case) where
-  pub gas-around : c ≡ qIn heat air 0 19 → (bytes : List ℕ) (a : Answer c bytes) → (a .pascals .lower ≤ 180 * air) × (180 * air ≤ a .pascals .upper)
+module _ {mass heat air : ℕ} (f : FirstsIn mass heat air) (c : Case) where
+  pub gas-around : c ≡ qIn mass heat air 0 19 → (bytes : List ℕ) (a : Answer c bytes) → (a .pascals .lower ≤ 180 * air) × (180 * air ≤ a .pascals .upper)
   unfolding whole
   gas-around e bytes a =
       let v = subst (λ (k : Case). ExactBetween 1 (overpressure (airOf k) k) (pos (a .pascals .lower)) (pos (a .pascals .upper))) e (a .pressure-ends .value) in
       let r = around (f .gas) v in
       (omega (arith, r .0), omega (arith, r .1))
 
-  pub reduced : c ≡ qIn heat air 1 100 → ExactBetween 1000 (reducedPressure (10 * air) c) (pos 285) (pos 285)
+  pub reduced : c ≡ qIn mass heat air 1 100 → ExactBetween 1000 (reducedPressure (10 * air) c) (pos 285) (pos 285)
   unfolding wholeZ ofRatio _⊠_
   reduced e =
       subst (λ (k : Case). ExactBetween 1000 (reducedPressure (10 * air) k) (pos 285) (pos 285)) (sym e)
       (between 1000 (point-holds (f .reduced)) (record { cross = omega arith }) (record { cross = omega arith }))
 
-  pub heterogeneous-around : c ≡ qIn heat air 1 100 → (bytes : List ℕ) (a : Answer c bytes) → (1000 * a .pascals .lower ≤ 2850 * air) × (2850 * air ≤ 1000 * a .pascals .upper)
+  pub heterogeneous-around : c ≡ qIn mass heat air 1 100 → (bytes : List ℕ) (a : Answer c bytes) → (1000 * a .pascals .lower ≤ 2850 * air) × (2850 * air ≤ 1000 * a .pascals .upper)
   heterogeneous-around e bytes a =
       let v = subst (λ (k : Case). ExactBetween 1 (overpressure (airOf k) k) (pos (a .pascals .lower)) (pos (a .pascals .upper))) e (a .pressure-ends .value) in
       let r = around (f .heterogeneous) v in
       (omega (arith, r .0), omega (arith, r .1))
+
+in-standard : FirstsIn 100 1013 10130
+in-standard = firsts-in (record { product = omega arith; least = omega arith; most = omega arith })
 
 pub known : KnownCases
 unfolding airIn fieldsOf nearer farther less cubed metres cube02 cube24 power whole _⊗_ energy groundFactor leanFactor leanBy decLe aerosolFactor heatOf betas betaOf rangeOf rangeAt ranges classOf frameVerdict firstOf held frameTests fieldTests valueTests lastTests quantityOutside heatMissing

@@ -8,23 +8,23 @@ use Rattle.fields.proofs.read.Tie as tie
 returns : tie.Need-returns
 unfolding fieldsOf
 returns c =
-    let body = c .before in
-    let heat = body .before .before in
-    let mean = heat .before .before in
-    let surroundings = mean .before .before in
-    let state = surroundings .before .before in
+    let distance = c .before in
+    let stoichiometric = distance .before .before in
+    let mass = stoichiometric .before .before in
+    let placement = mass .before .before in
+    let substance = placement .before .before in
     rw (
-      state .before .one-at .ensures .0,
-      state .one-at2 .ensures .0,
-      surroundings .before .one-at3 .ensures .0,
-      surroundings .one-at4 .ensures .0,
-      mean .before .four-at .ensures .0,
-      mean .two-at .ensures .0,
-      heat .before .two-at2 .ensures .0,
-      heat .four-at2 .ensures .0,
-      body .before .four-at3 .ensures .0,
-      body .two-at3 .ensures .0,
-      c .air-in .ensures,
+      substance .before .air-in .ensures,
+      substance .one-at .ensures .0,
+      placement .before .one-at2 .ensures .0,
+      placement .one-at3 .ensures .0,
+      mass .before .one-at4 .ensures .0,
+      mass .four-at .ensures .0,
+      stoichiometric .before .two-at .ensures .0,
+      stoichiometric .two-at2 .ensures .0,
+      distance .before .four-at2 .ensures .0,
+      distance .four-at3 .ensures .0,
+      c .two-at3 .ensures .0,
     )
     refl
 

@@ -85,12 +85,16 @@ line-tested line = go (either 44 48 line) (allDigits line) refl refl
         ∙ sym (ap (λ (o : Option Fault). checkedBy o (fieldsOf (bytesOf line))) (line-frame line h d ∙ frame-case (bytesOf line) (spelled-length line h)))
 
 -- the frame of a case has one of the two lengths
-frame-either : (c : Case) → either 22 24 (frameBytes c) ≡ true
+pub frame-either : (c : Case) → either 22 24 (frameBytes c) ≡ true
 frame-either c = go (eqb (c .air) standard) refl
   where
     go : (b : Bool) → eqb (c .air) standard ≡ b → either 22 24 (frameBytes c) ≡ true
     go true e = is-first 22 24 (frameBytes c) (back.standard-length c (eqb-true (c .air) standard e))
     go false e = is-second 22 24 (frameBytes c) (back.other-length c (eqb-false (c .air) standard e))
+
+-- the frame of a case with its fields in their values is tested as the case is
+pub own-checked : {c : Case} → Fields c → frameChecked (frameBytes c) ≡ caseChecked c
+own-checked {c} f = frame-checked (frameBytes c) (frame-either c) ∙ ap caseChecked (back.fields-again c f)
 
 -- the frame of a case that passes tests 3 to 6 passes them, behind test 1
 pub frame-passes : {c : Case} → Fields c → firstOf (fieldTests c) ≡ none → firstOf (frameTests (frameBytes c)) ≡ none

@@ -17,14 +17,16 @@ use Rattle.frame.specs.declared.Refusal.{Refusal}
 use Rattle.frame.specs.declared.Refusal.the-variants.{Faulty, Space}
 use Rattle.frame.specs.declared.Verdict.the-variants.{Accepted, Refused}
 use Rattle.frame.specs.Refusals.{number}
-use Rattle.fields.specs.Bytes.{fieldsOf}
+use Rattle.fields.specs.Bytes.{fieldsOf, frameBytes}
 use Rattle.hexadecimals.specs.Digits.{allDigits, bytesOf}
 use Rattle.refusals.specs.Order.{Test, firstOf, held}
 use Rattle.limits.specs.Tests.{heatMissing, valueTests, fieldTests}
-use Rattle.limits.specs.Checks.{checkedBy}
+use Rattle.limits.specs.declared.Checked.{Checked}
+use Rattle.limits.specs.Checks.{checkedBy, caseChecked}
+use Rattle.limits.specs.laws.Fields.{heated-passes}
 use Rattle.frame.specs.Tests.{either, frameTests, lineTests}
 use Rattle.frame.specs.Verdicts.{answerLength, lastTests, verdictBy, frameVerdict, lineVerdict}
-use Rattle.frame.specs.Checks.{frameChecked, lineChecked, judged}
+use Rattle.frame.specs.Checks.{frameChecked, lineChecked, placed, judged}
 use Rattle.refusals.specs.laws.Order.{orElse, first-held, same-held, found-held, neither-found, passed, applies, absent}
 use Rattle.frame.specs.laws.Checks as checks
 
@@ -45,6 +47,14 @@ frame-judged frame room = judged-by (frameTests frame) (fieldsOf frame) room
 pub line-judged : (line : List ℕ) (room : ℕ) → lineVerdict line room ≡ judged (lineChecked line) room
 unfolding lineVerdict lineChecked
 line-judged line room = judged-by (lineTests line) (fieldsOf (bytesOf line)) room
+
+-- the frame of a case with its fields in their values is judged by tests 3 to 8, and with a heat by 7 and 8
+
+pub own-judged : {c : Case} → cases.Fields c → (room : ℕ) → frameVerdict (frameBytes c) room ≡ judged (caseChecked c) room
+own-judged {c} f room = frame-judged (frameBytes c) room ∙ ap (λ (k : Checked). judged k room) (checks.own-checked f)
+
+pub own-placed : {c : Case} → Heated c → (room : ℕ) → frameVerdict (frameBytes c) room ≡ placed c room
+own-placed {c} h room = own-judged (h .fields) room ∙ ap (λ (o : Option Fault). judged (checkedBy o c) room) (heated-passes h)
 
 pub line-length : (line : List ℕ) (room : ℕ) → either 44 48 line ≡ false → lineVerdict line room ≡ Refused (Faulty Length)
 unfolding lineVerdict

@@ -3,16 +3,10 @@ use mathlib.Core.Path.{sym, ap, _∙_}
 use Rattle.places.specs.Holes.{trim}
 use Rattle.places.specs.Places.{standsFor}
 use Rattle.sheet.specs.Operations.{listOf}
-use Rattle.sheet_bytes.specs.laws.Lent.{short-lent, enough-lent}
+use Rattle.sheet_bytes.specs.laws.Lent.{enough-lent}
 use borrow.Author.Needs.{needs}
 use Rattle.lent_sheet.proofs.read.Statement.{statement}
 use Rattle.lent_sheet.proofs.read.Tie as tie
-
-empty-requires : tie.Need-empty-requires
-empty-requires c κs = search needs
-
-returns : tie.Need-returns
-returns c = c .empty .ensures .0 ∙ sym (short-lent _ (c .before .if1 .taken))
 
 unpack-requires : tie.Need-unpack-requires
 unpack-requires c κs = search needs
@@ -20,9 +14,9 @@ unpack-requires c κs = search needs
 none-requires : tie.Need-none-requires
 none-requires c κs = search needs
 
-returns-2 : tie.Need-returns-2
+returns : tie.Need-returns
 unfolding listOf standsFor
-returns-2 c = ap trim (c .before .unpack .ensures) ∙ sym (enough-lent _ (c .before .before .if1 .left))
+returns c = ap trim (c .before .unpack .ensures) ∙ sym (enough-lent _ (c .before .before .before .pre))
 
 pub read-spec : {M : Type 1} → statement M
-read-spec = tie.close (tie.spec empty-requires returns unpack-requires none-requires returns-2)
+read-spec = tie.close (tie.spec unpack-requires none-requires returns)

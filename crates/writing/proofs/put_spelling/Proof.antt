@@ -1,81 +1,87 @@
 -- `writing::put_spelling` meets its contract: the digits of the frame of the case as it is spelled. Assumes nothing.
 use Prim.Native.Nat.{ℕ, _*_, _≤_}
-use mathlib.Core.Path.{_≡_, sym, ap, subst, _∙_}
+use mathlib.Core.Path.{_≡_, sym, ap, _∙_}
 use mathlib.Core.List.{List}
 use native.Mathlib.Omega.{arith}
 use denote.Ref.{now}
-use lib.ListN.{length, take, replicate}
-use lib.Seq.{sets, length-sets, length-take-le, take-append-seam}
+use lib.ListN.{length, replicate, length-replicate}
+use lib.Seq.{sets}
 use borrow.Author.Needs.{needs}
 use Rattle.guidance.specs.declared.Case.{Case}
-use Rattle.bytes.specs.laws.Storing.{at-start}
+use Rattle.bytes.specs.laws.Storing.{sets-all}
 use Rattle.hexadecimals.specs.Written.{digitsOf}
 use Rattle.hexadecimals.specs.laws.Writing.{length-digits}
 use Rattle.fields.specs.Bytes.{frameBytes}
-use Rattle.fields.specs.laws.Back.{frame-most}
+use Rattle.fields.specs.laws.Back.{standard-length, other-length}
 use Rattle.writing.specs.Spelling.{asSpelled, spelling}
 use Rattle.writing.proofs.put_spelling.Statement.{statement}
 use Rattle.writing.proofs.put_spelling.Tie as tie
 
--- the n bytes of the frame of d, c as it is spelled, at the front of 24
-module _ (c d : Case) {full : List ℕ} {n : ℕ} (stored : full ≡ sets (replicate 24 0) 0 (frameBytes d)) (long : n ≡ length (frameBytes d)) (is : d ≡ asSpelled c) where
-  within : n ≤ length full
-  within = omega (arith, long, frame-most d, ap length stored, length-sets (replicate 24 0) 0 (frameBytes d))
+-- the frame of d, c as it is spelled, fills an array of its length
+module _ (c d : Case) (n : ℕ) {full : List ℕ} (long : length (frameBytes d) ≡ n) (stored : full ≡ sets (replicate n 0) 0 (frameBytes d)) (is : d ≡ asSpelled c) where
+  filled : full ≡ frameBytes (asSpelled c)
+  filled = stored ∙ sets-all (replicate n 0) (frameBytes d) (long ∙ sym (length-replicate n 0)) ∙ ap frameBytes is
 
-  front : take n full ≡ frameBytes (asSpelled c)
-  front =
-      ap (λ (k : ℕ). take k full) long
-      ∙ ap (take (length (frameBytes d))) (stored ∙ at-start (replicate 24 0) (frameBytes d) (frame-most d))
-      ∙ take-append-seam (frameBytes d) _
-      ∙ ap frameBytes is
-
-  spelled : digitsOf (take n full) ≡ spelling c
+  spelled : digitsOf full ≡ spelling c
   unfolding spelling
-  spelled = ap digitsOf front
+  spelled = ap digitsOf filled
 
-  spelled-length : 2 * length (take n full) ≡ length (spelling c)
+  room : (area : List ℕ) → length (spelling c) ≤ length area → 2 * length full ≤ length area
   unfolding spelling
-  spelled-length = ap (λ (l : List ℕ). 2 * length l) front ∙ sym (length-digits (frameBytes (asSpelled c)))
+  room area h = omega (arith, ap length filled, length-digits (frameBytes (asSpelled c)), h)
 
 write-requires : tie.Need-write-requires
-write-requires c κs = frame-most _
-
-array-share-prefix-frame : tie.Need-array-share-prefix-frame
-array-share-prefix-frame c =
-    let n = c .before .before .before in
-    within _ _ (c .before .write .ensures) (n .size-of .ensures) (n .before .as-spelled .ensures)
-
-slice-aggregate-write-2 : tie.Need-slice-aggregate-write-2
-slice-aggregate-write-2 c =
-    let w = c .before .before in
-    let n = w .before .before in
-    sym (length-take-le _ _ (within _ _ (w .write .ensures) (n .size-of .ensures) (n .before .as-spelled .ensures)))
+write-requires c κs = omega (arith, standard-length (c .before .before .before .as-spelled .result) (c .before .if1 .taken))
 
 write-requires-2 : tie.Need-write-requires-2
 write-requires-2 c κs =
     let w = c .before .before .before in
-    let n = w .before .before in
-    let s = n .before .before .before in
-    subst (λ (k : ℕ). k ≤ length (now (s .args .area))) (sym (spelled-length _ _ (w .write .ensures) (n .size-of .ensures) (n .before .as-spelled .ensures))) (s .pre)
+    let chosen = w .before .before in
+    let s = chosen .before .before .before .before in
+    room _ _ 22 (standard-length _ (chosen .if1 .taken)) (w .write .ensures) (chosen .before .before .as-spelled .ensures) (now (s .args .area)) (s .pre)
+
+write-requires-3 : tie.Need-write-requires-3
+write-requires-3 c κs = omega (arith, other-length (c .before .before .before .as-spelled .result) (c .before .if1 .left))
+
+write-requires-4 : tie.Need-write-requires-4
+write-requires-4 c κs =
+    let w = c .before .before .before in
+    let chosen = w .before .before in
+    let s = chosen .before .before .before .before in
+    room _ _ 24 (other-length _ (chosen .if1 .left)) (w .write3 .ensures) (chosen .before .before .as-spelled .ensures) (now (s .args .area)) (s .pre)
 
 returns : tie.Need-returns
 returns c =
     let digits = c .before .before in
     let w = digits .before .before .before .before in
-    let n = w .before .before in
-    let s = n .before .before .before in
-    digits .write2 .ensures ∙ ap (sets (now (s .args .area)) 0) (spelled _ _ (w .write .ensures) (n .size-of .ensures) (n .before .as-spelled .ensures))
+    let chosen = w .before .before in
+    let s = chosen .before .before .before .before in
+    digits .write2 .ensures
+    ∙ ap (sets (now (s .args .area)) 0) (spelled _ _ 22 (standard-length _ (chosen .if1 .taken)) (w .write .ensures) (chosen .before .before .as-spelled .ensures))
+
+returns-2 : tie.Need-returns-2
+returns-2 c =
+    let digits = c .before .before in
+    let w = digits .before .before .before .before in
+    let chosen = w .before .before in
+    let s = chosen .before .before .before .before in
+    digits .write4 .ensures
+    ∙ ap (sets (now (s .args .area)) 0) (spelled _ _ 24 (other-length _ (chosen .if1 .left)) (w .write3 .ensures) (chosen .before .before .as-spelled .ensures))
 
 pub put-spelling-spec : {M : Type 1} → statement M
 put-spelling-spec =
     tie.close
     (tie.spec
     (λ c κs. search needs)
-    (λ c κs. search needs)
     (λ c. search needs)
     write-requires
-    array-share-prefix-frame
-    slice-aggregate-write-2
+    (λ c. search needs)
     write-requires-2
     (λ c. search needs)
-    returns)
+    write-requires-3
+    (λ c. search needs)
+    write-requires-4
+    (λ c. search needs)
+    returns
+    (λ c. search needs)
+    returns-2)
