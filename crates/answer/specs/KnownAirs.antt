@@ -52,6 +52,7 @@ pub record KnownAirs : Type 0 where
   pub hundred-grams : EqualToAir 100 1013 10130
   pub q-itself : (state distance : ℕ) → fieldsOf (q state distance) ≡ qIn 100 1013 10130 state distance
   pub refusals : (air : ℕ) → 5000 ≤ air → air ≤ 11000 → KnownRefusals air
-  -- with 10,130 written out Q is the same case; range and energy of a case, the propane example's too, are the same in any air
+  -- with 10,130 written out Q is the same case and has the same verdict; range and energy of a case, the propane example's too, are the same in any air
   pub standard-written : (state distance : ℕ) → fieldsOf (q state distance ++ (0x27 ∷ 0x92 ∷ [])) ≡ fieldsOf (q state distance)
+  pub standard-verdict : (state distance room : ℕ) → frameVerdict (q state distance ++ (0x27 ∷ 0x92 ∷ [])) room ≡ frameVerdict (q state distance) room
   pub in-any-air : (c : Case) (air : ℕ) → (rangeOf (inAir c air) ≡ rangeOf c) × (energy (inAir c air) ≡ energy c)

@@ -68,7 +68,7 @@ module _ (o : Change) (s : List ℕ) (b t : Sheet) (x : Told) (room : size ≤ l
       accepted-by o s after (first ∙ e) (w ∙ ap (λ (xs : List (Option Held)). sets s 0 (sheetBytes xs)) list)
 
 -- adding where too few bytes are lent: what the empty sheet refuses, else 8
-abbrev shortRefusal : Placing → Option ℕ
+abbrev pub shortRefusal : Placing → Option ℕ
 shortRefusal (placed.At k) = some space
 shortRefusal (placed.Refused r) = some (number r)
 
@@ -118,11 +118,8 @@ module _ (frame s : List ℕ) (place : ℕ) (b t : Sheet) (p : Placing) (same : 
       short-judged (frameTests frame) (fieldsOf frame) u s p h
       (answered ∙ ap (λ (xs : List (Option Held)). adding (firstOf (sheets.addTests (frameTests frame) (fieldsOf frame) xs)) xs (heldOf (fieldsOf frame) u) .told) none-yet)
 
-  pub short-refused : (r : Refusal) → p ≡ placed.Refused r → length s < size → Adds frame s place (number r) s place
-  short-refused r e h = keeps (number r) (too-few h ∙ ap shortRefusal e)
-
-  pub short-placed : (k : ℕ) → p ≡ placed.At k → length s < size → Adds frame s place space s place
-  short-placed k e h = keeps space (too-few h ∙ ap shortRefusal e)
+  pub add-short : (n : ℕ) → shortRefusal p ≡ some n → length s < size → Adds frame s place n s place
+  add-short n e h = keeps n (too-few h ∙ e)
 
   pub add-refused : (r : Refusal) → p ≡ placed.Refused r → size ≤ length s → Adds frame s place (number r) s place
   add-refused r e h = keeps (number r) (first call s b t (placing p) h same (adds .does) ∙ ap (λ (q : Placing). refusal (placing q)) e)

@@ -2,6 +2,7 @@
 use Prim.Native.Nat.{ℕ, _+_, _*_, _/_, _%_, _≤_}
 use mathlib.Core.Path.{_≡_, refl, ap, _∙_}
 use mathlib.Core.Bool.{true, false}
+use mathlib.Core.List.{[], _∷_, _++_}
 use native.Mathlib.Omega.{arith}
 use Rattle.exact.specs.Fraction.{whole, _⊗_, power}
 use Rattle.guidance.specs.declared.Case.{Case}
@@ -23,11 +24,12 @@ use Rattle.limits.specs.declared.Checked.{Checked}
 use Rattle.limits.specs.laws.Limits.{not-outside}
 use Rattle.frame.specs.declared.Refusal.the-variants.{Faulty, Beyond}
 use Rattle.frame.specs.declared.Verdict.the-variants.{Accepted, Refused}
+use Rattle.frame.specs.Tests.{frameTests}
 use Rattle.frame.specs.Verdicts.{lastTests, frameVerdict}
 use Rattle.frame.specs.Checks.{judged}
 use Rattle.frame.specs.laws.Checks.{frame-either, frame-checked}
 use Rattle.frame.specs.laws.Verdicts.{frame-judged, own-judged, own-placed}
-use Rattle.answer.specs.KnownCases.{frameOf}
+use Rattle.answer.specs.KnownCases.{frameOf, q}
 use Rattle.answer.specs.KnownAirs.{KnownAir, starredIn, KnownRefusals, KnownAirs}
 use Rattle.answer.specs.laws.Known.{gas-around, reduced, heterogeneous-around}
 
@@ -110,6 +112,10 @@ module _ (air : ℕ) (least : 5000 ≤ air) (most : air ≤ 11000) where
 two-digits : (n : ℕ) → 0 + (256 * (n / 256) + n % 256) ≡ n
 two-digits n = omega arith
 
+written-out : (state distance room : ℕ) → frameVerdict (q state distance ++ (0x27 ∷ 0x92 ∷ [])) room ≡ frameVerdict (q state distance) room
+unfolding frameVerdict frameTests airIn fieldsOf
+written-out state distance room = refl
+
 pub known-airs : KnownAirs
 unfolding airIn fieldsOf inAir rangeOf energy groundFactor leanFactor aerosolFactor
 known-airs =
@@ -120,5 +126,6 @@ known-airs =
       q-itself = λ state distance. ap (qIn 100 1013 10130 state) (two-digits distance);
       refusals = refusals;
       standard-written = λ state distance. refl;
+      standard-verdict = written-out;
       in-any-air = λ c air. (refl, refl);
     }

@@ -3,12 +3,12 @@
 use Prim.Native.Nat.{ℕ, suc}
 use mathlib.Core.Option.{Option, none, some}
 use Rattle.exact.specs.Fraction.{Ratio, _≈_, Above0, _⊗_, recip, Frac, _⊑_, ofRatio}
-use Rattle.exact.specs.Bracket.{Bracket}
-use Rattle.exact.specs.Formula.{Formula, const, add, mul, div, ln, exp, bracketAt, lnB, expB}
+use Rattle.exact.specs.Bracket.{Bracket, overPairs}
+use Rattle.exact.specs.Formula.{Formula, const, add, mul, div, ln, exp, bracketAt, lift, lnB, expB}
 use Rattle.exact.specs.laws.Frac.{⊑-refl, ⊑-trans}
 use Rattle.exact.specs.laws.Ratio.{to≼, from≼}
 use Rattle.exact.specs.laws.EndsMeet.{ofRatio-mono}
-use Rattle.exact.specs.laws.Pairs.{⊞-monotone, ⊠-monotone}
+use Rattle.exact.specs.laws.Pairs.{Monotone, ⊞-monotone, ⊠-monotone}
 use Rattle.exact.specs.laws.Meeting.{meeting}
 use Rattle.exact.specs.laws.Inclusion.{div-inside}
 use Rattle.exact.specs.laws.Points.{point, point-inside, scale-inside, signed-above, signed-product, product-signed, positive-of, inverse-least, inverse-most}
@@ -30,15 +30,19 @@ const-within : {c d : Frac} → d ⊑ c → c ⊑ d → (n : ℕ) → Within (co
 unfolding bracketAt
 const-within h k n = record { inside = record { above = h; below = k } }
 
+-- for every operation that is taken over all pairs of ends
+both-within : {op : Frac → Frac → Frac} → Monotone op → {x y u v : Formula} {n : ℕ} → Within x u n → Within y v n
+    → Inside (lift (overPairs op) (bracketAt x n) (bracketAt y n)) (lift (overPairs op) (bracketAt u n) (bracketAt v n))
+both-within M {x} {y} {u} {v} {n} h k =
+    pairs-inside M (bracketAt x n) (bracketAt y n) (bracketAt u n) (bracketAt v n) (meeting x n n) (meeting y n n) (h .inside) (k .inside)
+
 pub add-within : {x y u v : Formula} {n : ℕ} → Within x u n → Within y v n → Within (add x y) (add u v) n
 unfolding bracketAt
-add-within {x} {y} {u} {v} {n} h k =
-    record { inside = pairs-inside ⊞-monotone (bracketAt x n) (bracketAt y n) (bracketAt u n) (bracketAt v n) (meeting x n n) (meeting y n n) (h .inside) (k .inside) }
+add-within h k = record { inside = both-within ⊞-monotone h k }
 
 pub mul-within : {x y u v : Formula} {n : ℕ} → Within x u n → Within y v n → Within (mul x y) (mul u v) n
 unfolding bracketAt
-mul-within {x} {y} {u} {v} {n} h k =
-    record { inside = pairs-inside ⊠-monotone (bracketAt x n) (bracketAt y n) (bracketAt u n) (bracketAt v n) (meeting x n n) (meeting y n n) (h .inside) (k .inside) }
+mul-within h k = record { inside = both-within ⊠-monotone h k }
 
 pub div-within : {x y u v : Formula} {n : ℕ} → Within x u n → Within y v n → Within (div x y) (div u v) n
 unfolding bracketAt

@@ -27,18 +27,20 @@ unfolding whole _⊗_ recip
 quotient-one x y h e = omega (arith, e .cross)
 
 module _ {air : ℕ} {c : Case} (e : EnergyIsAir air c) where
+  without-air : (x y : Ratio) → less (x ⊗ whole air) (y ⊗ whole air) ≡ less x y
+  without-air x y = less-same _ _ _ _ (⊗-cancel-right (whole air) (e .above)) (λ h. ⊗-mono h (≼-refl (whole air)))
+
+  energy-as-air : (t : Ratio) → t ⊗ energy c ≈ t ⊗ whole air
+  energy-as-air t = ⊗-cong (≈-refl t) (e .same)
+
   -- r³ < t, and t < r³
   pub nearer-metres : (t : Ratio) → nearer t air c ≡ less (power (metres c) 3) t
   unfolding nearer cubed
-  nearer-metres t =
-      less-value _ _ _ _ (≈-refl (cubed air c)) (⊗-cong (≈-refl t) (e .same))
-      ∙ less-same _ _ _ _ (⊗-cancel-right (whole air) (e .above)) (λ h. ⊗-mono h (≼-refl (whole air)))
+  nearer-metres t = less-value _ _ _ _ (≈-refl (cubed air c)) (energy-as-air t) ∙ without-air (power (metres c) 3) t
 
   pub farther-metres : (t : Ratio) → farther t air c ≡ less t (power (metres c) 3)
   unfolding farther cubed
-  farther-metres t =
-      less-value _ _ _ _ (⊗-cong (≈-refl t) (e .same)) (≈-refl (cubed air c))
-      ∙ less-same _ _ _ _ (⊗-cancel-right (whole air) (e .above)) (λ h. ⊗-mono h (≼-refl (whole air)))
+  farther-metres t = less-value _ _ _ _ (energy-as-air t) (≈-refl (cubed air c)) ∙ without-air t (power (metres c) 3)
 
   distance-within : (k : ℕ) → Within (reducedDistance air c) (unitDistance c) (suc k)
   unfolding reducedDistance unitDistance
