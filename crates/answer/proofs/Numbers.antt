@@ -7,40 +7,40 @@ use Rattle.guidance.specs.declared.Case.{Case}
 use Rattle.guidance.specs.declared.Cloud.{Cloud}
 use Rattle.guidance.specs.Cases.{Accepted}
 use Rattle.guidance.specs.CloudWords.{CloudOf}
-use Rattle.guidance.specs.AirPressure.{airOf}
+use Rattle.guidance.specs.AirPressure.{air_of}
 use Rattle.guidance.specs.Waves.{overpressure, impulse}
 use Rattle.guidance.specs.Probits.{probit1, probit2, probit3, probit4, probit5}
-use Rattle.guidance.specs.laws.Limits.{range-most}
+use Rattle.guidance.specs.laws.Limits.{range_most}
 use Rattle.layout.specs.declared.Ends.{Ends}
 use Rattle.layout.specs.declared.Probits.{Probits}
 use Rattle.blast.specs.declared.Wave.{Wave}
 use Rattle.blast.specs.Promises.{WaveOf, Rounded}
-use Rattle.blast.specs.Ending.{pressure-ended, impulse-ended}
+use Rattle.blast.specs.Ending.{pressure_ended, impulse_ended}
 use Rattle.probits.specs.Promises.{AllProbits}
 use Rattle.answer.specs.Entering.{FiguresOf}
-use Rattle.blast.specs.Ending.{wave-ends}
-use Rattle.answer.proofs.Exactness.{probit-ends}
+use Rattle.blast.specs.Ending.{wave_ends}
+use Rattle.answer.proofs.Exactness.{probit_ends}
 
-module _ {c : Case} {k : Cloud} {w : Wave} (a : Accepted (airOf c) c) (q : CloudOf c k) (v : WaveOf (airOf c) c w) where
-  pressure-encloses : Encloses w.pressure (overpressure (airOf c) c) enough
-  pressure-encloses = v.pressure.value.encloses enough (le_refl enough)
+module _ {c : Case} {k : Cloud} {w : Wave} (a : Accepted (air_of c) c) (q : CloudOf c k) (v : WaveOf (air_of c) c w) where
+  pressure_encloses : Encloses w.pressure (overpressure (air_of c) c) enough
+  pressure_encloses = v.pressure.value.encloses enough (le_refl enough)
 
-  impulse-encloses : Encloses w.impulse (impulse (airOf c) c) enough
-  impulse-encloses = v.impulse.value.encloses enough (le_refl enough)
+  impulse_encloses : Encloses w.impulse (impulse (air_of c) c) enough
+  impulse_encloses = v.impulse.value.encloses enough (le_refl enough)
 
   pub figures : {p i : Ends} {r : Probits} → Rounded w.pressure p → Rounded w.impulse i
-      → AllProbits w.pressure w.impulse (airOf c) c.body r
+      → AllProbits w.pressure w.impulse (air_of c) c.body r
       → FiguresOf c (record { range = k.range; pressure = p; impulse = i; probits = r })
   unfolding probit1 probit2 probit3 probit4 probit5
   figures f g h =
       record {
         range = q.range;
-        small = omega (arith, q.range, range-most c a.fields);
-        pressure-ends = wave-ends (pressure-ended v.pressure f);
-        impulse-ends = wave-ends (impulse-ended v.impulse g);
-        first = probit-ends _ (h.first.holds _ _ enough (le_refl enough) pressure-encloses impulse-encloses) h.first.closed;
-        second = probit-ends _ (h.second.holds _ _ enough (le_refl enough) pressure-encloses impulse-encloses) h.second.closed;
-        third = probit-ends _ (h.third.holds _ _ enough (le_refl enough) pressure-encloses impulse-encloses) h.third.closed;
-        fourth = probit-ends _ (h.fourth.holds _ enough (le_refl enough) pressure-encloses) h.fourth.closed;
-        fifth = probit-ends _ (h.fifth.holds _ _ enough (le_refl enough) pressure-encloses impulse-encloses) h.fifth.closed;
+        small = omega (arith, q.range, range_most c a.fields);
+        pressure_ends = wave_ends (pressure_ended v.pressure f);
+        impulse_ends = wave_ends (impulse_ended v.impulse g);
+        first = probit_ends _ (h.first.holds _ _ enough (le_refl enough) pressure_encloses impulse_encloses) h.first.closed;
+        second = probit_ends _ (h.second.holds _ _ enough (le_refl enough) pressure_encloses impulse_encloses) h.second.closed;
+        third = probit_ends _ (h.third.holds _ _ enough (le_refl enough) pressure_encloses impulse_encloses) h.third.closed;
+        fourth = probit_ends _ (h.fourth.holds _ enough (le_refl enough) pressure_encloses) h.fourth.closed;
+        fifth = probit_ends _ (h.fifth.holds _ _ enough (le_refl enough) pressure_encloses impulse_encloses) h.fifth.closed;
       }

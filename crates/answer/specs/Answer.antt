@@ -7,25 +7,25 @@ use Rattle.exact.specs.Formula.{Formula}
 use Rattle.exact.specs.Between.{whole_z, ExactBetween}
 use Rattle.guidance.specs.declared.Case.{Case}
 use Rattle.guidance.specs.Clouds.{range_of}
-use Rattle.guidance.specs.AirPressure.{airOf}
+use Rattle.guidance.specs.AirPressure.{air_of}
 use Rattle.guidance.specs.Waves.{overpressure, impulse}
 use Rattle.guidance.specs.Probits.{probit1, probit2, probit3, probit4, probit5}
 use Rattle.damage.specs.Damage.{damage}
 use Rattle.frame.specs.declared.Verdict.{Verdict}
 use Rattle.frame.specs.declared.Verdict.TheVariants.{Accepted, Refused}
-use Rattle.frame.specs.Verdicts.{frameVerdict, lineVerdict}
+use Rattle.frame.specs.Verdicts.{frame_verdict, line_verdict}
 use Rattle.blast.specs.WaveEnds.{WaveEnds}
 use Rattle.layout.specs.declared.Ends.{Ends}
 use Rattle.layout.specs.declared.Probit.{Probit}
 use Rattle.layout.specs.declared.Probits.{Probits}
 use Rattle.layout.specs.declared.Damages.{Damages}
-use Rattle.layout.specs.Places.{answerBytes}
+use Rattle.layout.specs.Places.{answer_bytes}
 
 -- a probit in thousandths: upper - lower is at most 2
 pub record ProbitEnds (x : Formula) (p : Probit) : Type 0 where
   pub value : ExactBetween 1000 x p.lower p.upper
   pub closed : whole_z p.upper ⊟ whole_z p.lower ⊑ whole_z (pos 2)
-  pub lower-fits : mag p.lower < 2 ^ 31
+  pub lower_fits : mag p.lower < 2 ^ 31
   pub upper_fits : mag p.upper < 2 ^ 31
 
 -- the lower damage is read at the lower end of the probit, the upper at the upper end
@@ -46,16 +46,16 @@ readings p =
 pub record Answer (c : Case) (bytes : List ℕ) : Type 0 where
   pub size : length bytes ≡ 77
   pub pascals : Ends
-  pub pascalSeconds : Ends
+  pub pascal_seconds : Ends
   pub probits : Probits
-  pub are : bytes ≡ answerBytes (range_of c) pascals pascalSeconds probits (readings probits)
-  pub pressure-ends : WaveEnds (overpressure (airOf c) c) pascals
-  pub impulse-ends : WaveEnds (impulse (airOf c) c) pascalSeconds
-  pub first : ProbitEnds (probit1 (airOf c) c) probits.first
-  pub second : ProbitEnds (probit2 (airOf c) c) probits.second
-  pub third : ProbitEnds (probit3 (airOf c) c) probits.third
-  pub fourth : ProbitEnds (probit4 (airOf c) c) probits.fourth
-  pub fifth : ProbitEnds (probit5 (airOf c) c) probits.fifth
+  pub are : bytes ≡ answer_bytes (range_of c) pascals pascal_seconds probits (readings probits)
+  pub pressure_ends : WaveEnds (overpressure (air_of c) c) pascals
+  pub impulse_ends : WaveEnds (impulse (air_of c) c) pascal_seconds
+  pub first : ProbitEnds (probit1 (air_of c) c) probits.first
+  pub second : ProbitEnds (probit2 (air_of c) c) probits.second
+  pub third : ProbitEnds (probit3 (air_of c) c) probits.third
+  pub fourth : ProbitEnds (probit4 (air_of c) c) probits.fourth
+  pub fifth : ProbitEnds (probit5 (air_of c) c) probits.fifth
 
 -- an accepted case writes the area's first 77 bytes only
 pub record Wrote (c : Case) (before after : List ℕ) : Type 0 where
@@ -70,9 +70,9 @@ Answered (Refused r) before after = after ≡ before
 
 -- the entries: what comes back is the verdict, and the area is as the verdict says; a line is judged as the frame that it spells
 pub record FromFrame (frame before : List ℕ) (v : Verdict) (after : List ℕ) : Type 0 where
-  pub verdict : v ≡ frameVerdict frame (length before)
+  pub verdict : v ≡ frame_verdict frame (length before)
   pub area : Answered v before after
 
 pub record FromLine (line before : List ℕ) (v : Verdict) (after : List ℕ) : Type 0 where
-  pub verdict : v ≡ lineVerdict line (length before)
+  pub verdict : v ≡ line_verdict line (length before)
   pub area : Answered v before after

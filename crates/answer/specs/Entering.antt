@@ -3,7 +3,7 @@ use Rattle.std.specs.Prelude.{ℕ, ◌≤◌, ◌≡◌, List, length}
 use Rattle.guidance.specs.declared.Case.{Case}
 use Rattle.guidance.specs.Cases as cases
 use Rattle.guidance.specs.Clouds.{range_of}
-use Rattle.guidance.specs.AirPressure.{airOf}
+use Rattle.guidance.specs.AirPressure.{air_of}
 use Rattle.guidance.specs.Waves.{overpressure, impulse}
 use Rattle.guidance.specs.Probits.{probit1, probit2, probit3, probit4, probit5}
 use Rattle.frame.specs.declared.Verdict.{Verdict}
@@ -15,17 +15,17 @@ use Rattle.answer.specs.Answer.{ProbitEnds, Answered}
 pub record FiguresOf (c : Case) (f : Figures) : Type 0 where
   pub range : f.range ≡ range_of c
   pub small : f.range ≤ 6
-  pub pressure-ends : WaveEnds (overpressure (airOf c) c) f.pressure
-  pub impulse-ends : WaveEnds (impulse (airOf c) c) f.impulse
-  pub first : ProbitEnds (probit1 (airOf c) c) f.probits.first
-  pub second : ProbitEnds (probit2 (airOf c) c) f.probits.second
-  pub third : ProbitEnds (probit3 (airOf c) c) f.probits.third
-  pub fourth : ProbitEnds (probit4 (airOf c) c) f.probits.fourth
-  pub fifth : ProbitEnds (probit5 (airOf c) c) f.probits.fifth
+  pub pressure_ends : WaveEnds (overpressure (air_of c) c) f.pressure
+  pub impulse_ends : WaveEnds (impulse (air_of c) c) f.impulse
+  pub first : ProbitEnds (probit1 (air_of c) c) f.probits.first
+  pub second : ProbitEnds (probit2 (air_of c) c) f.probits.second
+  pub third : ProbitEnds (probit3 (air_of c) c) f.probits.third
+  pub fourth : ProbitEnds (probit4 (air_of c) c) f.probits.fourth
+  pub fifth : ProbitEnds (probit5 (air_of c) c) f.probits.fifth
 
 -- an accepted case and room for its answer
 pub record Due (c : Case) (area : List ℕ) : Type 0 where
-  pub accepted : cases.Accepted (airOf c) c
+  pub accepted : cases.Accepted (air_of c) c
   pub room : 77 ≤ length area
 
 -- a verdict over an area: an accepted case is due its answer

@@ -1,7 +1,7 @@
 // The entries: a case, as a frame's bytes or as a line, is answered into a lent area of at least 77 bytes, or refused.
 ghost use Rattle.std.specs.Prelude.{◌≡◌};
 ghost use Rattle.guidance.specs.Cases.{Accepted};
-ghost use Rattle.guidance.specs.AirPressure.{airOf};
+ghost use Rattle.guidance.specs.AirPressure.{air_of};
 ghost use Rattle.answer.specs.Answer.{reading, readings, Wrote, FromFrame, FromLine};
 ghost use Rattle.answer.specs.Entering.{FiguresOf, Due, Enterable, Entered};
 
@@ -19,7 +19,7 @@ struct Figures {
 }
 
 fn figures_of(c: Case) -> Figures
-    requires { Accepted (airOf c) c }
+    requires { Accepted (air_of c) c }
     ensures { FiguresOf c result }
 {
     let air = guidance::air_of(c);

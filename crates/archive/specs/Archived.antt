@@ -1,7 +1,7 @@
 -- The cases of a study sheet stored by column (request 12).
 use Rattle.std.specs.Prelude.{ℕ, List, [], ◌∷◌, ◌++◌, length}
 use Rattle.std.proofs.Math.Option.{Option, none, some}
-use Rattle.fields.specs.Bytes.{longFrame}
+use Rattle.fields.specs.Bytes.{long_frame}
 use Rattle.places.specs.declared.Held.{Held}
 use Rattle.places.specs.Holes.{closed}
 use Rattle.columns.specs.Stored.{stored}
@@ -9,13 +9,13 @@ use Rattle.columns.specs.Stored.{stored}
 -- the frame of what a place holds, filled to 24 bytes; a gap has none
 abbrev pub frame_at : Option Held → List ℕ
 frame_at none = []
-frame_at (some h) = longFrame h.case
+frame_at (some h) = long_frame h.case
 
 -- those of the cases in order, without the gaps
-unfoldable pub framesOf : List (Option Held) → List ℕ
-framesOf [] = []
-framesOf (x ∷ xs) = frame_at x ++ framesOf xs
+unfoldable pub frames_of : List (Option Held) → List ℕ
+frames_of [] = []
+frames_of (x ∷ xs) = frame_at x ++ frames_of xs
 
 -- the number of cases, and their frames by column
 unfoldable pub archived : List (Option Held) → List ℕ
-archived xs = stored (length (closed xs)) (framesOf xs)
+archived xs = stored (length (closed xs)) (frames_of xs)

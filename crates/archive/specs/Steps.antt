@@ -4,7 +4,7 @@ use Rattle.std.proofs.Math.Option.{Option, none, some}
 use Rattle.bytes.specs.Storing.{Stored}
 use Rattle.places.specs.declared.Held.{Held}
 use Rattle.places.specs.Holes.{closed}
-use Rattle.archive.specs.Archived.{frame_at, framesOf}
+use Rattle.archive.specs.Archived.{frame_at, frames_of}
 
 -- how many cases a place holds
 abbrev pub cases : Option Held → ℕ
@@ -19,4 +19,4 @@ pub record Put (x : Option Held) (n : ℕ) (before : List ℕ) (r : ℕ) (after 
 -- n frames of a list stand in front
 pub record Gathered (xs : List (Option Held)) (before : List ℕ) (n : ℕ) (after : List ℕ) : Type 0 where
   pub count : n ≡ length (closed xs)
-  pub frames : Stored before 0 (framesOf xs) after
+  pub frames : Stored before 0 (frames_of xs) after

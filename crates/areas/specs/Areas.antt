@@ -11,6 +11,6 @@ before b zero = cond (eqb b mark) 0 1
 before b (suc n) = suc (suc n)
 
 -- how many bytes there are up to the last that is no mark
-unfoldable pub writtenIn : List ℕ → ℕ
-writtenIn [] = 0
-writtenIn (b ∷ rest) = before b (writtenIn rest)
+unfoldable pub written_in : List ℕ → ℕ
+written_in [] = 0
+written_in (b ∷ rest) = before b (written_in rest)

@@ -1,6 +1,6 @@
 // An area that a test program lends, full of marks, and how much of it was written into.
 ghost use Rattle.std.specs.Prelude.{◌≡◌, cond, ◌≤◌, ltb, length};
-ghost use Rattle.areas.specs.Areas.{writtenIn};
+ghost use Rattle.areas.specs.Areas.{written_in};
 
 // What each byte of an area holds before it is lent: no digit of a text. A frame that ends in it is taken for a byte shorter.
 pub const MARK: u8 = 0x5f;
@@ -15,7 +15,7 @@ pub fn room_of(asked: u64, area: usize) -> usize
 
 // How many bytes there are up to the last that is no mark.
 pub fn written(area: &[u8]) -> usize
-    ensures { (result ≡ writtenIn area.now) × (result ≤ length area.now) }
+    ensures { (result ≡ written_in area.now) × (result ≤ length area.now) }
 {
     let mut n = 0;
     let mut i = 0;

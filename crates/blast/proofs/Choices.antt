@@ -3,11 +3,11 @@ use Prim.Native.Nat.{ℕ, ◌≤◌}
 use mathlib.Core.Path.{◌≡◌, subst⁻¹}
 use mathlib.Core.Bool.{Bool, true, false, cond}
 use native.Mathlib.Omega.{arith}
-use Rattle.exact.specs.Fraction.{Ratio, ofRatio}
+use Rattle.exact.specs.Fraction.{Ratio, of_ratio}
 use Rattle.exact.specs.Formula.{Formula}
 use Rattle.span.specs.declared.Span.{Span}
 use Rattle.span.specs.Spans.{Constant}
-use Rattle.span.specs.Enclosing.{constant-encloses, wider}
+use Rattle.span.specs.Enclosing.{constant_encloses, wider}
 use Rattle.guidance.specs.Waves.{number}
 use Rattle.blast.specs.Windows.{Window}
 use Rattle.blast.specs.Promises.{Enclosure}
@@ -35,12 +35,12 @@ pub otherwise : {w : Window} {s : Span} (b : Bool) (x y : Formula) → b ≡ fal
 otherwise {w} {s} b x y e h = subst⁻¹ (λ (i : Bool). Enclosure (cond i x y) w s) e h
 
 -- a constant lies in every window that has its exponent
-pub constant-enclosure : (q : Ratio) {w : Window} {e : ℕ} {s : Span} → Constant (ofRatio q) e s → Inner (record { width = 1; least = e; most = e }) w
+pub constant_enclosure : (q : Ratio) {w : Window} {e : ℕ} {s : Span} → Constant (of_ratio q) e s → Inner (record { width = 1; least = e; most = e }) w
     → Enclosure (number q) w s
-constant-enclosure q k i =
+constant_enclosure q k i =
     record {
       normal = k.normal;
-      encloses = λ n l. constant-encloses k n;
+      encloses = λ n l. constant_encloses k n;
       width = wider i.width k.width;
       least = omega (arith, k.exponent, i.least);
       most = omega (arith, k.exponent, i.most);

@@ -3,12 +3,12 @@ use Prim.Native.Nat.{ℕ, ◌^◌, ◌≤◌, ◌<◌}
 use mathlib.Core.Path.{◌≡◌, subst}
 use mathlib.Core.Bool.{Bool, true, false}
 use native.Mathlib.Omega.{arith}
-use Rattle.exact.specs.Fraction.{Ratio, ◌≈◌, whole, ◌⊗◌, ofRatio}
+use Rattle.exact.specs.Fraction.{Ratio, ◌≈◌, whole, ◌⊗◌, of_ratio}
 use Rattle.exact.specs.Bracket.{Bracket}
 use Rattle.exact.specs.laws.Ratio.{to≼, from≼}
-use Rattle.exact.specs.laws.EndsMeet.{ofRatio-mono}
-use Rattle.exact.specs.laws.Points.{signed_product, product-signed}
-use Rattle.exact.specs.laws.Inclusion.{const-inside}
+use Rattle.exact.specs.laws.EndsMeet.{of_ratio_mono}
+use Rattle.exact.specs.laws.Points.{signed_product, product_signed}
+use Rattle.exact.specs.laws.Inclusion.{const_inside}
 use Rattle.exact.specs.Holding.{◌∈◌}
 use Rattle.span.specs.declared.Span.{Span}
 use Rattle.span.specs.Spans.{hull, fraction, FractionOf, Constant, Factors, Product}
@@ -21,54 +21,54 @@ use Rattle.guidance.specs.Waves.{number}
 use Rattle.blast.specs.Intermediates.{Worded, EnergySpan}
 
 -- a fraction of the same value
-pub value_in : {x y : Ratio} {K : Bracket} → x ≈ y → ofRatio y ∈ K → ofRatio x ∈ K
-value_in h m = same_in (ofRatio-mono (from≼ h)) (ofRatio-mono (to≼ h)) m
+pub value_in : {x y : Ratio} {K : Bracket} → x ≈ y → of_ratio y ∈ K → of_ratio x ∈ K
+value_in h m = same_in (of_ratio_mono (from≼ h)) (of_ratio_mono (to≼ h)) m
 
-pub number-encloses : (q : Ratio) (s : Span) → ofRatio q ∈ hull s → (n : ℕ) → Encloses s (number q) n
-number-encloses q s m n = record { inside = const-inside (ofRatio q) n (hull s) m }
+pub number_encloses : (q : Ratio) (s : Span) → of_ratio q ∈ hull s → (n : ℕ) → Encloses s (number q) n
+number_encloses q s m n = record { inside = const_inside (of_ratio q) n (hull s) m }
 
-times-one : (x y : Ratio) → y ≈ x ⊗ whole 1 → y ≈ x
+times_one : (x y : Ratio) → y ≈ x ⊗ whole 1 → y ≈ x
 unfolding whole ◌⊗◌
-times-one x y h = omega arith
+times_one x y h = omega arith
 
 module _ {k : Cloud} {a : Span} (w : Worded k) (f : FractionOf k.joules k.parts a) (small : k.joules < 2 ^ 64) where
   least : 978 ≤ a.e
-  least = omega (arith, f.least 0 16 w.joules (omega (arith, w.parts-most)))
+  least = omega (arith, f.least 0 16 w.joules (omega (arith, w.parts_most)))
 
   most : a.e ≤ 1059
   most = omega (arith, f.most 64 0 small w.parts)
 
-  pub quarters-factors : {q : Span} → Constant (ofRatio (reduction true)) 993 q → Factors a q
-  quarters-factors i = record { left = f.normal; right = i.normal; least = omega (arith, least, i.exponent); most = omega (arith, most, i.exponent) }
+  pub quarters_factors : {q : Span} → Constant (of_ratio (reduction true)) 993 q → Factors a q
+  quarters_factors i = record { left = f.normal; right = i.normal; least = omega (arith, least, i.exponent); most = omega (arith, most, i.exponent) }
 
-  words-in : (z : 0 < k.parts) → ofRatio (over k.joules k.parts z) ∈ hull a
-  unfolding ofRatio fraction
-  words-in z = f.holds z
+  words_in : (z : 0 < k.parts) → of_ratio (over k.joules k.parts z) ∈ hull a
+  unfolding of_ratio fraction
+  words_in z = f.holds z
 
-  pub energy-plain : k.aerosol ≡ false → EnergySpan k a
-  energy-plain e =
+  pub energy_plain : k.aerosol ≡ false → EnergySpan k a
+  energy_plain e =
       record {
         energy = λ c h.
-            let same = times-one _ _ (subst (λ (b : Bool). energy c ≈ over k.joules k.parts h.parts ⊗ reduction b) e h.energy) in
+            let same = times_one _ _ (subst (λ (b : Bool). energy c ≈ over k.joules k.parts h.parts ⊗ reduction b) e h.energy) in
             record {
               normal = f.normal;
-              encloses = λ n l. number-encloses (energy c) a (value_in same (words-in h.parts)) n;
+              encloses = λ n l. number_encloses (energy c) a (value_in same (words_in h.parts)) n;
               width = wider (omega arith) f.width;
               least = omega (arith, least);
               most = omega (arith, most);
             };
       }
 
-  pub energy-reduced : {q r : Span} → Constant (ofRatio (reduction true)) 993 q → k.aerosol ≡ true → Product a q r → EnergySpan k r
-  energy-reduced {r = r} i e p =
+  pub energy_reduced : {q r : Span} → Constant (of_ratio (reduction true)) 993 q → k.aerosol ≡ true → Product a q r → EnergySpan k r
+  energy_reduced {r = r} i e p =
       record {
         energy = λ c h.
             let x = over k.joules k.parts h.parts in
             let same = subst (λ (b : Bool). energy c ≈ x ⊗ reduction b) e h.energy in
-            let m = p.holds _ _ (words-in h.parts) i.holds in
+            let m = p.holds _ _ (words_in h.parts) i.holds in
             record {
               normal = p.normal;
-              encloses = λ n l. number-encloses (energy c) r (value_in same (same_in (product-signed x _) (signed_product x _) m)) n;
+              encloses = λ n l. number_encloses (energy c) r (value_in same (same_in (product_signed x _) (signed_product x _) m)) n;
               width = wider (omega arith) (p.width 8 1 f.width i.width);
               least = omega (arith, least, p.least, i.exponent);
               most = omega (arith, most, p.most, i.exponent);

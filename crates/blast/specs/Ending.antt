@@ -4,15 +4,15 @@ use Rattle.std.proofs.Common.{arith, lt_of_mul-lt-mul_right}
 use Rattle.exact.specs.Fraction.{◌⊑◌, ◌⊠◌}
 use Rattle.exact.specs.Formula.{Formula}
 use Rattle.exact.specs.Between.{whole_z}
-use Rattle.exact.specs.laws.Meeting.{any-two-meet}
+use Rattle.exact.specs.laws.Meeting.{any_two_meet}
 use Rattle.exact.specs.laws.Between.{between}
 use Rattle.span.specs.declared.Span.{Span}
-use Rattle.span.specs.Spans.{unit, wholeF}
+use Rattle.span.specs.Spans.{unit, whole_f}
 use Rattle.span.specs.Enclosing.{wider}
-use Rattle.span.specs.Wholes.{wholes-hold, wholes-apart}
+use Rattle.span.specs.Wholes.{wholes_hold, wholes_apart}
 use Rattle.enclosure.specs.Promises.{enough}
 use Rattle.layout.specs.declared.Ends.{Ends}
-use Rattle.waves.specs.EndBounds.{LowerAtMost, value-most-of}
+use Rattle.waves.specs.EndBounds.{LowerAtMost, value_most_of}
 use Rattle.blast.specs.Windows.{Window}
 use Rattle.blast.specs.Promises.{Enclosure, PressureSpan, ImpulseSpan, Ended, Roundable, Rounded}
 use Rattle.blast.specs.WaveEnds.{Closed, WaveEnds}
@@ -24,50 +24,50 @@ module _ {x : Formula} {w : Window} {n : ℕ} {s : Span} {e : Ends} (top : ℕ) 
   ended : w.width ≤ 2 ^ 20 → Closed e.lower e.upper → LowerAtMost s n 1 → (t : ℕ) → 512 * n ≤ 511 * t * 1 → t < top → Ended x top e
   ended d closed m t i j =
       record {
-        holds = wholes-hold {n = enough} (omega arith) f.lower f.upper (v.encloses enough (omega arith));
-        meet = any-two-meet x;
+        holds = wholes_hold {n = enough} (omega arith) f.lower f.upper (v.encloses enough (omega arith));
+        meet = any_two_meet x;
         closed = closed;
         small =
-            let high = value-most-of (wider d v.width) m (omega arith) t i in
+            let high = value_most_of (wider d v.width) m (omega arith) t i in
             let b = below_top e.upper t (s.hi * 2 ^ s.e) unit high f.upper.near in
             omega (arith, b, j);
       }
 
 module _ {x : Formula} {s : Span} where
-  pub pressure-roundable : PressureSpan x s → Roundable s
-  pressure-roundable p = record { normal = p.value.normal; most = omega (arith, p.value.most) }
+  pub pressure_roundable : PressureSpan x s → Roundable s
+  pressure_roundable p = record { normal = p.value.normal; most = omega (arith, p.value.most) }
 
-  pub impulse-roundable : ImpulseSpan x s → Roundable s
-  impulse-roundable p = record { normal = p.value.normal; most = omega (arith, p.value.most) }
+  pub impulse_roundable : ImpulseSpan x s → Roundable s
+  impulse_roundable p = record { normal = p.value.normal; most = omega (arith, p.value.most) }
 
   -- the width that is promised is narrow enough for the rule
 
-  pressure-closed : {e : Ends} → PressureSpan x s → Rounded s e → Closed e.lower e.upper
-  pressure-closed p f = wholes-apart _ f.lower f.upper p.value.width (omega arith)
+  pressure_closed : {e : Ends} → PressureSpan x s → Rounded s e → Closed e.lower e.upper
+  pressure_closed p f = wholes_apart _ f.lower f.upper p.value.width (omega arith)
 
-  impulse-closed : {e : Ends} → ImpulseSpan x s → Rounded s e → Closed e.lower e.upper
-  impulse-closed p f = wholes-apart _ f.lower f.upper p.value.width (omega arith)
+  impulse_closed : {e : Ends} → ImpulseSpan x s → Rounded s e → Closed e.lower e.upper
+  impulse_closed p f = wholes_apart _ f.lower f.upper p.value.width (omega arith)
 
-  pub pressure-ended : {e : Ends} → PressureSpan x s → Rounded s e → Ended x (2 ^ 24) e
-  pressure-ended p f = ended (2 ^ 24) p.value f (omega arith) (pressure-closed p f) p.lower 14200000 (omega arith) (omega arith)
+  pub pressure_ended : {e : Ends} → PressureSpan x s → Rounded s e → Ended x (2 ^ 24) e
+  pressure_ended p f = ended (2 ^ 24) p.value f (omega arith) (pressure_closed p f) p.lower 14200000 (omega arith) (omega arith)
 
-  pub impulse-ended : {e : Ends} → ImpulseSpan x s → Rounded s e → Ended x (2 ^ 24) e
-  impulse-ended p f = ended (2 ^ 24) p.value f (omega arith) (impulse-closed p f) p.lower 15000000 (omega arith) (omega arith)
+  pub impulse_ended : {e : Ends} → ImpulseSpan x s → Rounded s e → Ended x (2 ^ 24) e
+  impulse_ended p f = ended (2 ^ 24) p.value f (omega arith) (impulse_closed p f) p.lower 15000000 (omega arith) (omega arith)
 
 -- such whole numbers are ends by the width rule
 
-lower-whole : (n : ℕ) → whole_z (pos n) ⊑ whole_z (pos 1) ⊠ wholeF n
-unfolding wholeF whole_z ◌⊠◌
-lower-whole n = record { cross = omega arith }
+lower_whole : (n : ℕ) → whole_z (pos n) ⊑ whole_z (pos 1) ⊠ whole_f n
+unfolding whole_f whole_z ◌⊠◌
+lower_whole n = record { cross = omega arith }
 
-upper-whole : (n : ℕ) → whole_z (pos 1) ⊠ wholeF n ⊑ whole_z (pos n)
-unfolding wholeF whole_z ◌⊠◌
-upper-whole n = record { cross = omega arith }
+upper_whole : (n : ℕ) → whole_z (pos 1) ⊠ whole_f n ⊑ whole_z (pos n)
+unfolding whole_f whole_z ◌⊠◌
+upper_whole n = record { cross = omega arith }
 
-pub wave-ends : {x : Formula} {e : Ends} → Ended x (2 ^ 24) e → WaveEnds x e
-wave-ends {e = e} h =
+pub wave_ends : {x : Formula} {e : Ends} → Ended x (2 ^ 24) e → WaveEnds x e
+wave_ends {e = e} h =
     record {
-      value = between 1 h.holds (lower-whole e.lower) (upper-whole e.upper);
+      value = between 1 h.holds (lower_whole e.lower) (upper_whole e.upper);
       closed = h.closed;
       fits = omega (arith, h.small);
     }

@@ -16,7 +16,7 @@ use Rattle.guidance.specs.declared.Case.{Case}
 use Rattle.guidance.specs.declared.Cloud.{Cloud}
 use Rattle.guidance.specs.Clouds.{energy, deflagrates}
 use Rattle.guidance.specs.CloudWords.{CloudOf}
-use Rattle.guidance.specs.Waves.{number, hundredths, thousandths, gasImpulse, raised, third, twoThirds, reducedDistance, nearField, machNumber, deflagrationDistance, inPascals, inPascalSeconds}
+use Rattle.guidance.specs.Waves.{number, hundredths, thousandths, gas_impulse, raised, third, two_thirds, reduced_distance, near_field, mach_number, deflagration_distance, in_pascals, in_pascal_seconds}
 use Rattle.blast.specs.declared.Detonation.{Detonation}
 use Rattle.blast.specs.declared.Detonation.TheVariants as variants
 use Rattle.blast.specs.declared.Flame.{Flame}
@@ -24,18 +24,18 @@ use Rattle.blast.specs.declared.Deflagration.{Deflagration}
 use Rattle.blast.specs.declared.Deflagration.TheVariants as burning
 use Rattle.blast.specs.declared.Common.{Common}
 use Rattle.blast.specs.declared.Scale.{Scale}
-use Rattle.blast.specs.Windows.{Window, energyWindow, airPowerWindow, energyRootWindow, distanceWindow, reducedPressureWindow, reducedImpulseWindow}
+use Rattle.blast.specs.Windows.{Window, energy_window, air_power_window, energy_root_window, distance_window, reduced_pressure_window, reduced_impulse_window}
 use Rattle.blast.specs.Promises.{Enclosure, Ready, PressureSpan, ImpulseSpan}
 
 -- words that a cloud may have
 pub record Worded (k : Cloud) : Type 0 where
   pub joules : 1 ≤ k.joules
   pub parts : 0 < k.parts
-  pub parts-most : k.parts ≤ 50000
+  pub parts_most : k.parts ≤ 50000
 
 -- E, of every case whose cloud this is
 pub record EnergySpan (k : Cloud) (s : Span) : Type 0 where
-  pub energy : (c : Case) → CloudOf c k → Enclosure (number (energy c)) energyWindow s
+  pub energy : (c : Case) → CloudOf c k → Enclosure (number (energy c)) energy_window s
 
 -- Cube roots, of numbers from 2^-33 to 2^68
 
@@ -54,31 +54,31 @@ pub record CubeRoot (t r : Span) : Type 0 where
 
 -- P0^(2/3), from 1290 to 2310
 pub record AirPower (air : ℕ) (r : Span) : Type 0 where
-  pub power : Enclosure (raised twoThirds (number (whole air))) airPowerWindow r
+  pub power : Enclosure (raised two_thirds (number (whole air))) air_power_window r
   pub lower : LowerAtMost r 2310 1
 
 -- Rx of an accepted case, in x
 pub record Seen (c : Case) (k : Cloud) (air : ℕ) (x : Span) : Type 0 where
   pub ready : Ready c k air
-  pub distance : Enclosure (reducedDistance air c) distanceWindow x
+  pub distance : Enclosure (reduced_distance air c) distance_window x
 
 -- What a detonation formula takes, by the case
 
 pub record NearField (air : ℕ) (c : Case) (t : ℕ) : Type 0 where
-  pub near : nearField air c ≡ true
+  pub near : near_field air c ≡ true
   pub state : t ≡ c.state
 
 pub record HeterogeneousAt (air : ℕ) (c : Case) (x : Span) : Type 0 where
-  pub away : nearField air c ≡ false
+  pub away : near_field air c ≡ false
   pub state : c.state ≡ 1
   pub distance : Distance 19 100 x
-  pub value : Enclosure (reducedDistance air c) distanceWindow x
+  pub value : Enclosure (reduced_distance air c) distance_window x
 
 pub record GasAt (air : ℕ) (c : Case) (l : Log) : Type 0 where
-  pub away : nearField air c ≡ false
+  pub away : near_field air c ≡ false
   pub state : c.state ≡ 1 → ⊥
   pub distance : Near l
-  pub encloses : (n : ℕ) → enough ≤ n → LogEncloses l (ln (reducedDistance air c)) n
+  pub encloses : (n : ℕ) → enough ≤ n → LogEncloses l (ln (reduced_distance air c)) n
   pub narrow : Narrow l 73
 
 abbrev pub Detonated : (air : ℕ) (c : Case) → Detonation → Type 0
@@ -89,14 +89,14 @@ Detonated air c (variants.Gas l) = GasAt air c l
 -- w = V/C0
 pub record MachSpan (c : Case) (w : Span) : Type 0 where
   pub normal : Normal w
-  pub encloses : (n : ℕ) → enough ≤ n → Encloses w (machNumber c) n
+  pub encloses : (n : ℕ) → enough ≤ n → Encloses w (mach_number c) n
   pub width : Width w 44
   pub least : 986 ≤ w.e
   pub most : LowerAtMost w 3 2
 
 -- R of the deflagration formulas
 pub record DeflagrationSpan (air : ℕ) (c : Case) (y : Span) : Type 0 where
-  pub encloses : (n : ℕ) → enough ≤ n → Encloses y (deflagrationDistance air c) n
+  pub encloses : (n : ℕ) → enough ≤ n → Encloses y (deflagration_distance air c) n
   pub width : Width y 55
   pub distance : Distance 33 100 y
 
@@ -120,14 +120,14 @@ pub record CommonOf (air : ℕ) (c : Case) (s : Common) : Type 0 where
   pub deflagration : Deflagrated air c s.deflagration
 
 -- Ix of the near field, by the state: 0.16, or that of a gas at 0.142
-unfoldable pub nearImpulse : ℕ → Formula
-nearImpulse state = cond (eqb state 1) (number (hundredths 16)) (gasImpulse (number (thousandths 142)))
+unfoldable pub near_impulse : ℕ → Formula
+near_impulse state = cond (eqb state 1) (number (hundredths 16)) (gas_impulse (number (thousandths 142)))
 
 -- From reduced figures to Pa and Pa·s
 
 -- E^(1/3), from 0.023 to 67,200
 pub record EnergyRoot (c : Case) (t : Span) : Type 0 where
-  pub root : Enclosure (raised third (number (energy c))) energyRootWindow t
+  pub root : Enclosure (raised third (number (energy c))) energy_root_window t
   pub lower : LowerAtMost t 67200 1
 
 pub record ScaleOf (air : ℕ) (c : Case) (s : Scale) : Type 0 where
@@ -142,7 +142,7 @@ pub record EnclosesSome (w : Window) (s : Span) : Type 0 where
 -- whatever Px is in px, Px-as-P0 is in s; whatever Ix is in ix, Ix·P0^(2/3)·E^(1/3)/C0 is in s
 
 pub record Pascals (air : ℕ) (px s : Span) : Type 0 where
-  pub value : (x : Formula) → Enclosure x reducedPressureWindow px → PressureSpan (inPascals air x) s
+  pub value : (x : Formula) → Enclosure x reduced_pressure_window px → PressureSpan (in_pascals air x) s
 
 pub record PascalSeconds (air : ℕ) (c : Case) (ix s : Span) : Type 0 where
-  pub value : (x : Formula) → Enclosure x reducedImpulseWindow ix → ImpulseSpan (inPascalSeconds air c x) s
+  pub value : (x : Formula) → Enclosure x reduced_impulse_window ix → ImpulseSpan (in_pascal_seconds air c x) s

@@ -13,11 +13,11 @@ use Rattle.waves.specs.EndBounds.{LowerAtMost}
 use Rattle.guidance.specs.declared.Case.{Case}
 use Rattle.guidance.specs.declared.Cloud.{Cloud}
 use Rattle.guidance.specs.CloudWords.{CloudOf}
-use Rattle.guidance.specs.Waves.{deflagrationPressure, deflagrationImpulse, detonationPressure, detonationImpulse, inPascals, inPascalSeconds, overpressure, impulse}
+use Rattle.guidance.specs.Waves.{deflagration_pressure, deflagration_impulse, detonation_pressure, detonation_impulse, in_pascals, in_pascal_seconds, overpressure, impulse}
 use Rattle.guidance.specs.Cases.{Air, Accepted}
 use Rattle.blast.specs.declared.Wave.{Wave}
 use Rattle.blast.specs.declared.Figures.{Figures}
-use Rattle.blast.specs.Windows.{Window, pressureWindow, impulseWindow}
+use Rattle.blast.specs.Windows.{Window, pressure_window, impulse_window}
 use Rattle.blast.specs.WaveEnds.{Closed}
 use Rattle.layout.specs.declared.Ends.{Ends}
 
@@ -38,16 +38,16 @@ pub record Ready (c : Case) (k : Cloud) (air : ℕ) : Type 0 where
 -- an overpressure, up to 14,080,000 Pa, and an impulse, up to 14,610,071 Pa·s
 
 pub record PressureSpan (x : Formula) (s : Span) : Type 0 where
-  pub value : Enclosure x pressureWindow s
+  pub value : Enclosure x pressure_window s
   pub lower : LowerAtMost s 14080000 1
 
 pub record ImpulseSpan (x : Formula) (s : Span) : Type 0 where
-  pub value : Enclosure x impulseWindow s
+  pub value : Enclosure x impulse_window s
   pub lower : LowerAtMost s 14610071 1
 
-pub record WaveAround (pascals pascalSeconds : Formula) (w : Wave) : Type 0 where
+pub record WaveAround (pascals pascal_seconds : Formula) (w : Wave) : Type 0 where
   pub pressure : PressureSpan pascals w.pressure
-  pub impulse : ImpulseSpan pascalSeconds w.impulse
+  pub impulse : ImpulseSpan pascal_seconds w.impulse
 
 -- ΔP and I
 abbrev pub WaveOf : (air : ℕ) → Case → Wave → Type 0
@@ -56,10 +56,10 @@ WaveOf air c w = WaveAround (overpressure air c) (impulse air c) w
 -- ΔP and I by either rule, before the smaller is taken (request 5)
 
 abbrev pub DeflagrationWave : (air : ℕ) → Case → Wave → Type 0
-DeflagrationWave air c w = WaveAround (inPascals air (deflagrationPressure air c)) (inPascalSeconds air c (deflagrationImpulse air c)) w
+DeflagrationWave air c w = WaveAround (in_pascals air (deflagration_pressure air c)) (in_pascal_seconds air c (deflagration_impulse air c)) w
 
 abbrev pub DetonationWave : (air : ℕ) → Case → Wave → Type 0
-DetonationWave air c w = WaveAround (inPascals air (detonationPressure air c)) (inPascalSeconds air c (detonationImpulse air c)) w
+DetonationWave air c w = WaveAround (in_pascals air (detonation_pressure air c)) (in_pascal_seconds air c (detonation_impulse air c)) w
 
 pub record FiguresOf (air : ℕ) (c : Case) (f : Figures) : Type 0 where
   pub deflagration : DeflagrationWave air c f.deflagration

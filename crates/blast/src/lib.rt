@@ -2,10 +2,10 @@
 // Branches are taken by the exact tests of `guidance` alone; each function follows its formula operation by operation.
 ghost use Rattle.std.specs.Prelude.{◌^◌, ◌<◌};
 ghost use Rattle.guidance.specs.Cases.{Air, Accepted};
-ghost use Rattle.guidance.specs.Waves.{reducedDistance, detonationPressure, detonationImpulse, reducedPressure, reducedImpulse, overpressure, impulse};
-ghost use Rattle.blast.specs.Windows.{distanceWindow, detonationPressureWindow, detonationImpulseWindow, reducedPressureWindow, reducedImpulseWindow};
+ghost use Rattle.guidance.specs.Waves.{reduced_distance, detonation_pressure, detonation_impulse, reduced_pressure, reduced_impulse, overpressure, impulse};
+ghost use Rattle.blast.specs.Windows.{distance_window, detonation_pressure_window, detonation_impulse_window, reduced_pressure_window, reduced_impulse_window};
 ghost use Rattle.blast.specs.Promises.{Enclosure, Ready, WaveOf, FiguresOf, DeflagrationWave, DetonationWave, Ended, Roundable, Rounded};
-ghost use Rattle.blast.specs.Intermediates.{Seen, Detonated, FlameOf, Deflagrated, CommonOf, Worded, EnergySpan, Rootable, CubeRoot, AirPower, MachSpan, DeflagrationSpan, nearImpulse, ScaleOf, EnclosesSome, Pascals, PascalSeconds};
+ghost use Rattle.blast.specs.Intermediates.{Seen, Detonated, FlameOf, Deflagrated, CommonOf, Worded, EnergySpan, Rootable, CubeRoot, AirPower, MachSpan, DeflagrationSpan, near_impulse, ScaleOf, EnclosesSome, Pascals, PascalSeconds};
 
 use fixed::Log;
 use guidance::{Case, Cloud};
@@ -104,7 +104,7 @@ fn air_power(air: u64) -> Span
 // Rx = r/(E/P0)^(1/3), at any distance.
 fn reduced_distance(c: Case, k: Cloud, air: u64) -> Span
     requires { Ready c k air }
-    ensures { Enclosure (reducedDistance air c) distanceWindow result }
+    ensures { Enclosure (reduced_distance air c) distance_window result }
 {
     let joules = energy(k);
     let share = span::quo_whole(joules, air, guidance::STANDARD_AIR);
@@ -170,7 +170,7 @@ fn detonation_of(c: Case, k: Cloud, air: u64, x: Span) -> Detonation
 // Px of a detonation.
 fn detonation_pressure(c: Case, air: u64, d: Detonation) -> Span
     requires { Detonated air c d }
-    ensures { Enclosure (detonationPressure air c) detonationPressureWindow result }
+    ensures { Enclosure (detonation_pressure air c) detonation_pressure_window result }
 {
     match d {
         Detonation::Near(_) => EIGHTEEN,
@@ -181,7 +181,7 @@ fn detonation_pressure(c: Case, air: u64, d: Detonation) -> Span
 
 // Ix of the near field.
 fn near_impulse(state: u64) -> Span
-    ensures { Enclosure (nearImpulse state) detonationImpulseWindow result }
+    ensures { Enclosure (near_impulse state) detonation_impulse_window result }
 {
     if state == 1 {
         NEAR_AEROSOL
@@ -194,7 +194,7 @@ fn near_impulse(state: u64) -> Span
 // Ix of a detonation.
 fn detonation_impulse(c: Case, air: u64, d: Detonation) -> Span
     requires { Detonated air c d }
-    ensures { Enclosure (detonationImpulse air c) detonationImpulseWindow result }
+    ensures { Enclosure (detonation_impulse air c) detonation_impulse_window result }
 {
     match d {
         Detonation::Near(state) => near_impulse(state),
@@ -265,7 +265,7 @@ fn common_of(c: Case, k: Cloud, air: u64) -> Common
 // Px: in ranges 2 to 6 the smaller of the two.
 fn reduced_pressure(c: Case, air: u64, s: Common) -> Span
     requires { CommonOf air c s }
-    ensures { Enclosure (reducedPressure air c) reducedPressureWindow result }
+    ensures { Enclosure (reduced_pressure air c) reduced_pressure_window result }
 {
     let detonation = s.detonation;
     let d = detonation_pressure(c, air, detonation);
@@ -282,7 +282,7 @@ fn reduced_pressure(c: Case, air: u64, s: Common) -> Span
 // Ix: in ranges 2 to 6 the smaller of the two.
 fn reduced_impulse(c: Case, air: u64, s: Common) -> Span
     requires { CommonOf air c s }
-    ensures { Enclosure (reducedImpulse air c) reducedImpulseWindow result }
+    ensures { Enclosure (reduced_impulse air c) reduced_impulse_window result }
 {
     let detonation = s.detonation;
     let d = detonation_impulse(c, air, detonation);
@@ -298,7 +298,7 @@ fn reduced_impulse(c: Case, air: u64, s: Common) -> Span
 
 // Px in Pa: Px.P0.
 fn pascals(air: u64, px: Span) -> Span
-    requires { (Air air) × (EnclosesSome reducedPressureWindow px) }
+    requires { (Air air) × (EnclosesSome reduced_pressure_window px) }
     ensures { Pascals air px result }
 {
     let p = span::whole(air);
@@ -318,7 +318,7 @@ fn scale_of(c: Case, k: Cloud, air: u64) -> Scale
 
 // Ix in Pa·s: Ix·P0^(2/3)·E^(1/3)/C0.
 fn pascal_seconds(c: Case, air: u64, s: Scale, ix: Span) -> Span
-    requires { (ScaleOf air c s) × (EnclosesSome reducedImpulseWindow ix) }
+    requires { (ScaleOf air c s) × (EnclosesSome reduced_impulse_window ix) }
     ensures { PascalSeconds air c ix result }
 {
     let share = span::mul(ix, s.power);

@@ -5,14 +5,14 @@ use Rattle.std.specs.Prelude.{ℕ, ◌+◌, ◌*◌, ◌/◌, ◌%◌, ◌^◌, 
 abbrev pub one_at : List ℕ → ℕ → ℕ
 one_at s at = get_or s at 0
 
-abbrev pub twoAt : List ℕ → ℕ → ℕ
-twoAt s at = 256 * one_at s at + one_at s (at + 1)
+abbrev pub two_at : List ℕ → ℕ → ℕ
+two_at s at = 256 * one_at s at + one_at s (at + 1)
 
-abbrev pub fourAt : List ℕ → ℕ → ℕ
-fourAt s at = 65536 * twoAt s at + twoAt s (at + 2)
+abbrev pub four_at : List ℕ → ℕ → ℕ
+four_at s at = 65536 * two_at s at + two_at s (at + 2)
 
-abbrev pub eightAt : List ℕ → ℕ → ℕ
-eightAt s at = 2 ^ 32 * fourAt s at + fourAt s (at + 4)
+abbrev pub eight_at : List ℕ → ℕ → ℕ
+eight_at s at = 2 ^ 32 * four_at s at + four_at s (at + 4)
 
 -- a number's last one, two, four or eight bytes
 unfoldable pub one : ℕ → List ℕ

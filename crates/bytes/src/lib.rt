@@ -1,6 +1,6 @@
 // Numbers in bytes, high byte first: read from a place of a slice, and stored from one on.
 ghost use Rattle.std.specs.Prelude.{◌≡◌, ◌+◌, ◌%◌, ◌^◌, ◌≤◌, ◌<◌, length};
-ghost use Rattle.bytes.specs.Numbers.{one_at, twoAt, fourAt, eightAt, one, two, four, eight};
+ghost use Rattle.bytes.specs.Numbers.{one_at, two_at, four_at, eight_at, one, two, four, eight};
 ghost use Rattle.bytes.specs.Storing.{Stored};
 
 fn wide(x: u8) -> u64
@@ -20,7 +20,7 @@ pub fn one_at(s: &[u8], at: usize) -> u64
 // The number in the two bytes from a place on.
 pub fn two_at(s: &[u8], at: usize) -> u64
     requires { at + 2 ≤ length s.now }
-    ensures { (result ≡ twoAt s.now at) × (result < 2 ^ 16) }
+    ensures { (result ≡ two_at s.now at) × (result < 2 ^ 16) }
 {
     256 * one_at(s, at) + one_at(s, at + 1)
 }
@@ -28,7 +28,7 @@ pub fn two_at(s: &[u8], at: usize) -> u64
 // The number in the four bytes from a place on.
 pub fn four_at(s: &[u8], at: usize) -> u64
     requires { at + 4 ≤ length s.now }
-    ensures { (result ≡ fourAt s.now at) × (result < 2 ^ 32) }
+    ensures { (result ≡ four_at s.now at) × (result < 2 ^ 32) }
 {
     0x1_0000 * two_at(s, at) + two_at(s, at + 2)
 }
@@ -36,7 +36,7 @@ pub fn four_at(s: &[u8], at: usize) -> u64
 // The number in the eight bytes from a place on.
 pub fn eight_at(s: &[u8], at: usize) -> u64
     requires { at + 8 ≤ length s.now }
-    ensures { result ≡ eightAt s.now at }
+    ensures { result ≡ eight_at s.now at }
 {
     0x1_0000_0000 * four_at(s, at) + four_at(s, at + 4)
 }

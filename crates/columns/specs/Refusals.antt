@@ -21,6 +21,6 @@ abbrev pub code : Restoring → ℕ
 code (Written n) = 0
 code (Refused r) = number r
 
-abbrev pub storingCode : Storing → ℕ
-storingCode (store.Written n) = 0
-storingCode store.Space = number Space
+abbrev pub storing_code : Storing → ℕ
+storing_code (store.Written n) = 0
+storing_code store.Space = number Space

@@ -36,19 +36,19 @@ pub record Stores (bytes before : List ℕ) (v : Storing) (after : List ℕ) : T
   pub area : after ≡ cond (ltb (length before) (length bytes)) before (sets before 0 bytes)
 
 -- turning back: 20, and last 8
-unfoldable pub restoreTests : (bytes : List ℕ) (room : ℕ) → List (Test Refusal)
-restoreTests bytes room = (Columns when damaged bytes) ∷ (Space when ltb room (length (restored bytes))) ∷ []
+unfoldable pub restore_tests : (bytes : List ℕ) (room : ℕ) → List (Test Refusal)
+restore_tests bytes room = (Columns when damaged bytes) ∷ (Space when ltb room (length (restored bytes))) ∷ []
 
 -- the first test that applies refuses the stored bytes
-abbrev pub verdictBy : Option Refusal → (frames : List ℕ) → Restoring
-verdictBy none frames = Written (length frames)
-verdictBy (some r) frames = Refused r
+abbrev pub verdict_by : Option Refusal → (frames : List ℕ) → Restoring
+verdict_by none frames = Written (length frames)
+verdict_by (some r) frames = Refused r
 
 -- at the start of the area; a refusal leaves the area as it was
-abbrev pub withBytes : {R : Type 0} → Option R → (bytes area : List ℕ) → List ℕ
-withBytes none bytes area = sets area 0 bytes
-withBytes (some r) bytes area = area
+abbrev pub with_bytes : {R : Type 0} → Option R → (bytes area : List ℕ) → List ℕ
+with_bytes none bytes area = sets area 0 bytes
+with_bytes (some r) bytes area = area
 
 pub record Restores (bytes before : List ℕ) (v : Restoring) (after : List ℕ) : Type 0 where
-  pub verdict : v ≡ verdictBy (first_of (restoreTests bytes (length before))) (restored bytes)
-  pub area : after ≡ withBytes (first_of (restoreTests bytes (length before))) (restored bytes) before
+  pub verdict : v ≡ verdict_by (first_of (restore_tests bytes (length before))) (restored bytes)
+  pub area : after ≡ with_bytes (first_of (restore_tests bytes (length before))) (restored bytes) before

@@ -2,7 +2,7 @@
 ghost use Rattle.std.specs.Prelude.{◌≡◌, ◌*◌, ◌<◌, length};
 ghost use Rattle.refusals.specs.Faults.{filled};
 ghost use Rattle.columns.specs.Transposed.{column, transposed};
-ghost use Rattle.columns.specs.Refusals.{number, word, code, storingCode};
+ghost use Rattle.columns.specs.Refusals.{number, word, code, storing_code};
 ghost use Rattle.columns.specs.Stored.{Frames, stored, Stores, Restores};
 
 // The bytes of a frame, and the most frames.
@@ -63,7 +63,7 @@ pub fn code_of(v: Restoring) -> u64
 
 // The same of frames that are stored.
 pub fn code_of_storing(v: Storing) -> u64
-    ensures { result ≡ storingCode v }
+    ensures { result ≡ storing_code v }
 {
     match v {
         Storing::Written(_) => 0,

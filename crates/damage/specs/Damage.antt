@@ -15,22 +15,22 @@ percents =
     ∷ 584 ∷ 588 ∷ 592 ∷ 595 ∷ 599 ∷ 604 ∷ 608 ∷ 613 ∷ 618 ∷ 623
     ∷ 628 ∷ 634 ∷ 641 ∷ 648 ∷ 655 ∷ 664 ∷ 675 ∷ 688 ∷ 705 ∷ 733 ∷ []
 
-abbrev pub lastTenths : List ℕ
-lastTenths = 737 ∷ 741 ∷ 746 ∷ 751 ∷ 758 ∷ 765 ∷ 775 ∷ 788 ∷ 809 ∷ []
+abbrev pub last_tenths : List ℕ
+last_tenths = 737 ∷ 741 ∷ 746 ∷ 751 ∷ 758 ∷ 765 ∷ 775 ∷ 788 ∷ 809 ∷ []
 
 unfoldable pub table : List ℕ
-table = percents ++ lastTenths
+table = percents ++ last_tenths
 
 -- how many entries are not above a probit in thousandths
-abbrev pub notAbove : List ℕ → ℕ → ℕ
-notAbove [] probit = 0
-notAbove (x ∷ xs) probit = cond (leb (10 * x) probit) (suc (notAbove xs probit)) (notAbove xs probit)
+abbrev pub not_above : List ℕ → ℕ → ℕ
+not_above [] probit = 0
+not_above (x ∷ xs) probit = cond (leb (10 * x) probit) (suc (not_above xs probit)) (not_above xs probit)
 
 -- the probability of the n-th entry in tenths of a percent: 0 before the first, 10 to 990 by tens, then 991 to 999
-unfoldable pub tenthsOfPercent : ℕ → ℕ
-tenthsOfPercent n = cond (leb n 99) (10 * n) (891 + n)
+unfoldable pub tenths_of_percent : ℕ → ℕ
+tenths_of_percent n = cond (leb n 99) (10 * n) (891 + n)
 
 -- the greatest tabulated probability whose probit is not above: the table rises, so that it is that of the last entry counted (laws/Readings, `damage-is-greatest`)
 unfoldable pub damage : ℤ → ℕ
-damage (pos probit) = tenthsOfPercent (notAbove table probit)
+damage (pos probit) = tenths_of_percent (not_above table probit)
 damage (negsuc n) = 0

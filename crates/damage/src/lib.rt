@@ -1,7 +1,7 @@
 // Table 3 of 003: the damage that a probit reads.
 ghost use Rattle.std.specs.Prelude.{◌≡◌, ◌*◌};
-ghost use Rattle.damage.specs.Damage.{notAbove, table, tenthsOfPercent, damage};
-ghost use Rattle.damage.specs.laws.Readings.{fromZero};
+ghost use Rattle.damage.specs.Damage.{not_above, table, tenths_of_percent, damage};
+ghost use Rattle.damage.specs.laws.Readings.{from_zero};
 
 // The probits of 1 to 99 percent, then of 99.1 to 99.9 percent, in hundredths (003, Table 3).
 const PROBITS: [u16; 108] = [
@@ -23,7 +23,7 @@ fn in_thousandths(entry: u16) -> u64
 // How many entries of the table are not above p thousandths. It rises: what is below `lo` is not above p, what is from `hi` on is.
 fn rank(t: &[u16; 108], p: u64) -> u64
     requires { t.now ≡ table }
-    ensures { result ≡ notAbove table p }
+    ensures { result ≡ not_above table p }
 {
     let mut lo: usize = 0;
     let mut hi: usize = 108;
@@ -40,7 +40,7 @@ fn rank(t: &[u16; 108], p: u64) -> u64
 
 // The damage at p thousandths, from 0 up. Outside the table it is not looked up: an access copies the whole of it.
 fn reading(p: u64) -> u64
-    ensures { result ≡ tenthsOfPercent (notAbove table p) }
+    ensures { result ≡ tenths_of_percent (not_above table p) }
 {
     if p < 2670 {
         return 0;
@@ -55,7 +55,7 @@ fn reading(p: u64) -> u64
 
 // A probit, or 0 where it is below zero.
 fn from_zero(probit: i64) -> u64
-    ensures { result ≡ fromZero probit }
+    ensures { result ≡ from_zero probit }
 {
     if probit >= 0 { probit as u64 } else { 0 }
 }

@@ -34,10 +34,10 @@ distance s n (fin true m e) = m * up e * s + n * down e
 -- a finite double to which no other is nearer to n / s
 pub record Nearest (s n : ℕ) (x : Float) : Type 0 where
   pub is_finite : T (finite x)
-  pub none-nearer : (y : Float) → T (fits binary64 y) → T (finite y) → distance s n x * den y ≤ distance s n y * den x
+  pub none_nearer : (y : Float) → T (fits binary64 y) → T (finite y) → distance s n x * den y ≤ distance s n y * den x
 
-unfoldable pub minusZero : Float → Bool
-minusZero nan = false
-minusZero (inf t) = false
-minusZero (fin false m e) = false
-minusZero (fin true m e) = eqb m 0
+unfoldable pub minus_zero : Float → Bool
+minus_zero nan = false
+minus_zero (inf t) = false
+minus_zero (fin false m e) = false
+minus_zero (fin true m e) = eqb m 0

@@ -4,7 +4,7 @@ use mathlib.Core.Bool.{Bool}
 use Prim.Native.Nat.{ℕ, ◌+◌, ◌*◌, ◌^◌}
 use lib.Dec.{T, leb, leb→le}
 use Rattle.exact.specs.Fraction.{Ratio, ◌≼◌, ◌≈◌}
-use Rattle.span.specs.Spans.{unit, unit-positive}
+use Rattle.span.specs.Spans.{unit, unit_positive}
 use Rattle.span.specs.Powers.{shared}
 use Rattle.enclosure.specs.ExpSteps.{binary}
 
@@ -16,6 +16,6 @@ pub tested : (x y : Ratio) → T (below x y) → x ≼ y
 tested x y t = record { cross = leb→le _ _ t }
 
 -- m·2^e units are m/2^k
-pub as-binary : (m e k : ℕ) → e + k ≡ 1024 → record { num = m * 2 ^ e; den = unit; positive = unit-positive } ≈ binary m k
+pub as_binary : (m e k : ℕ) → e + k ≡ 1024 → record { num = m * 2 ^ e; den = unit; positive = unit_positive } ≈ binary m k
 unfolding unit binary
-as-binary m e k h = record { cross = shared m e k 1024 h }
+as_binary m e k h = record { cross = shared m e k 1024 h }

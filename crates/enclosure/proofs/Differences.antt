@@ -4,14 +4,14 @@ use Prim.Native.Nat.{ℕ, suc, ◌+◌}
 use native.Mathlib.Omega.{arith}
 use lib.IntN.{ℤ, pos, negsuc, ◌-ℤ◌}
 use Rattle.fixed.specs.Logs.{up, dn}
-use Rattle.fixed.specs.SignedLaws.{minus-parts}
+use Rattle.fixed.specs.SignedLaws.{minus_parts}
 
 exactly : (z : ℤ) (d : ℕ) → up z ≡ dn z + d → z ≡ pos d
 exactly (pos n) d h = ap pos (omega arith)
 exactly (negsuc n) d h = absurd (omega arith)
 
 pub difference : (x y : ℤ) (d : ℕ) → up x + dn y ≡ up y + dn x + d → x -ℤ y ≡ pos d
-difference x y d h = exactly (x -ℤ y) d (omega (arith, minus-parts x y))
+difference x y d h = exactly (x -ℤ y) d (omega (arith, minus_parts x y))
 
 -- 0 - x
 pub opposite : (a : ℕ) → pos 0 -ℤ negsuc a ≡ pos (suc a)

@@ -9,12 +9,12 @@ use lib.Dec.{T, leb, leb→le}
 use lib.ListN.{length, get_or}
 use Rattle.exact.specs.Fraction.{Ratio, ◌≼◌, ◌≈◌, Above0, whole, ◌⊕◌, ◌⊗◌, ◌⊖◌, recip, power, sum}
 use Rattle.exact.specs.laws.Ratio.{to≼, from≼, ≼_refl}
-use Rattle.exact.specs.Series.{factorial, expTerm, expLower, expTail, expUpper}
+use Rattle.exact.specs.Series.{factorial, exp_term, exp_lower, exp_tail, exp_upper}
 use Rattle.exact.specs.laws.Tables.{both, both_left, both_right, every, at_entry}
-use Rattle.exact.specs.laws.Reduction.{Most, Least, most-upper, most-mono, most-times, least-mono, least-times}
+use Rattle.exact.specs.laws.Reduction.{Most, Least, most_upper, most_mono, most_times, least_mono, least_times}
 use Rattle.span.specs.declared.Span.{Span}
 use Rattle.span.specs.Spans.{unit}
-use Rattle.enclosure.specs.ExpTables.{entry_of, smallTable, sixteenthTable, oneTable, sixteenTable}
+use Rattle.enclosure.specs.ExpTables.{entry_of, small_table, sixteenth_table, one_table, sixteen_table}
 use Rattle.enclosure.specs.ExpSteps.{low, high, binary, ExpIn}
 use Rattle.enclosure.proofs.ClosedFractions.{below, tested}
 
@@ -45,9 +45,9 @@ passed {U = U} b u h i m r x1 =
       width = record { narrow = omega arith };
       least = leb→le _ _ (both_left _ _ x5);
       most = leb→le _ _ (both_left _ _ x6);
-      lower = least-mono m (≼_refl _) (least-times b.lower i) (tested _ _ (both_left _ _ x7));
+      lower = least_mono m (≼_refl _) (least_times b.lower i) (tested _ _ (both_left _ _ x7));
       bound = power U i;
-      upper = most-times b.upper i;
+      upper = most_times b.upper i;
       room = tested _ _ (both_right _ _ x7);
     }
 
@@ -61,100 +61,100 @@ entry_in b u h xs t d l m e = rw e (passed b u h d m _ (at_entry _ (entry_of 0 0
 abbrev small_low : Ratio
 small_low = binary 18518942588666869714 64
 
-abbrev small-high : Ratio
-small-high = binary 18518942588666869715 64
+abbrev small_high : Ratio
+small_high = binary 18518942588666869715 64
 
-small-room : Above0 (whole 8 ⊖ binary 1 8)
+small_room : Above0 (whole 8 ⊖ binary 1 8)
 unfolding binary whole ◌⊖◌
-small-room = record { above = omega arith }
+small_room = record { above = omega arith }
 
-small-base : Base (binary 1 8) 7 small_low small-high
-unfolding binary expLower expUpper expTail expTerm sum power factorial whole recip ◌⊖◌ ◌⊗◌ ◌⊕◌
-small-base =
+small_base : Base (binary 1 8) 7 small_low small_high
+unfolding binary exp_lower exp_upper exp_tail exp_term sum power factorial whole recip ◌⊖◌ ◌⊗◌ ◌⊕◌
+small_base =
     record {
       lower = record { begin = tested _ _ tt };
-      upper = most-mono (≼_refl _) (most-upper _ 7 small-room) (tested _ _ tt);
+      upper = most_mono (≼_refl _) (most_upper _ 7 small_room) (tested _ _ tt);
     }
 
-pub small-in : {d : ℕ} {r : Span} → r ≡ get_or smallTable d (entry_of 0 0) → d < 16 → ExpIn (whole 1) 200 1 994 (whole d ⊗ binary 1 8) r
-unfolding smallTable both low high binary unit whole power ◌⊗◌
-small-in e l = entry_in small-base 200 994 smallTable tt _ l (omega arith) e
+pub small_in : {d : ℕ} {r : Span} → r ≡ get_or small_table d (entry_of 0 0) → d < 16 → ExpIn (whole 1) 200 1 994 (whole d ⊗ binary 1 8) r
+unfolding small_table both low high binary unit whole power ◌⊗◌
+small_in e l = entry_in small_base 200 994 small_table tt _ l (omega arith) e
 
 -- e^(1/16), by 11 terms
 
-abbrev sixteenth-low : Ratio
-sixteenth-low = binary 19636456851539679189 64
+abbrev sixteenth_low : Ratio
+sixteenth_low = binary 19636456851539679189 64
 
-abbrev sixteenth-high : Ratio
-sixteenth-high = binary 19636456851539679190 64
+abbrev sixteenth_high : Ratio
+sixteenth_high = binary 19636456851539679190 64
 
-sixteenth-room : Above0 (whole 12 ⊖ binary 1 4)
+sixteenth_room : Above0 (whole 12 ⊖ binary 1 4)
 unfolding binary whole ◌⊖◌
-sixteenth-room = record { above = omega arith }
+sixteenth_room = record { above = omega arith }
 
-sixteenth-base : Base (binary 1 4) 11 sixteenth-low sixteenth-high
-unfolding binary expLower expUpper expTail expTerm sum power factorial whole recip ◌⊖◌ ◌⊗◌ ◌⊕◌
-sixteenth-base =
+sixteenth_base : Base (binary 1 4) 11 sixteenth_low sixteenth_high
+unfolding binary exp_lower exp_upper exp_tail exp_term sum power factorial whole recip ◌⊖◌ ◌⊗◌ ◌⊕◌
+sixteenth_base =
     record {
       lower = record { begin = tested _ _ tt };
-      upper = most-mono (≼_refl _) (most-upper _ 11 sixteenth-room) (tested _ _ tt);
+      upper = most_mono (≼_refl _) (most_upper _ 11 sixteenth_room) (tested _ _ tt);
     }
 
-pub sixteenth-in : {d : ℕ} {r : Span} → r ≡ get_or sixteenthTable d (entry_of 0 0) → d < 16 → ExpIn (whole 1) 200 1 995 (whole d ⊗ binary 1 4) r
-unfolding sixteenthTable both low high binary unit whole power ◌⊗◌
-sixteenth-in e l = entry_in sixteenth-base 200 995 sixteenthTable tt _ l (omega arith) e
+pub sixteenth_in : {d : ℕ} {r : Span} → r ≡ get_or sixteenth_table d (entry_of 0 0) → d < 16 → ExpIn (whole 1) 200 1 995 (whole d ⊗ binary 1 4) r
+unfolding sixteenth_table both low high binary unit whole power ◌⊗◌
+sixteenth_in e l = entry_in sixteenth_base 200 995 sixteenth_table tt _ l (omega arith) e
 
 -- e, by 21 terms
 
-abbrev one-low : Ratio
-one-low = binary 50143449209799256682 64
+abbrev one_low : Ratio
+one_low = binary 50143449209799256682 64
 
-abbrev one-high : Ratio
-one-high = binary 50143449209799256683 64
+abbrev one_high : Ratio
+one_high = binary 50143449209799256683 64
 
-one-room : Above0 (whole 22 ⊖ whole 1)
+one_room : Above0 (whole 22 ⊖ whole 1)
 unfolding binary whole ◌⊖◌
-one-room = record { above = omega arith }
+one_room = record { above = omega arith }
 
-one-base : Base (whole 1) 21 one-low one-high
-unfolding binary expLower expUpper expTail expTerm sum power factorial whole recip ◌⊖◌ ◌⊗◌ ◌⊕◌
-one-base =
+one_base : Base (whole 1) 21 one_low one_high
+unfolding binary exp_lower exp_upper exp_tail exp_term sum power factorial whole recip ◌⊖◌ ◌⊗◌ ◌⊕◌
+one_base =
     record {
       lower = record { begin = tested _ _ tt };
-      upper = most-mono (≼_refl _) (most-upper _ 21 one-room) (tested _ _ tt);
+      upper = most_mono (≼_refl _) (most_upper _ 21 one_room) (tested _ _ tt);
     }
 
-pub one_in : {d : ℕ} {r : Span} → r ≡ get_or oneTable d (entry_of 0 0) → d < 16 → ExpIn (whole 1) 400 1 1015 (whole d ⊗ whole 1) r
-unfolding oneTable both low high binary unit whole power ◌⊗◌
-one_in e l = entry_in one-base 400 1015 oneTable tt _ l (omega arith) e
+pub one_in : {d : ℕ} {r : Span} → r ≡ get_or one_table d (entry_of 0 0) → d < 16 → ExpIn (whole 1) 400 1 1015 (whole d ⊗ whole 1) r
+unfolding one_table both low high binary unit whole power ◌⊗◌
+one_in e l = entry_in one_base 400 1015 one_table tt _ l (omega arith) e
 
 -- e^16, as e to the 16th
 
-abbrev sixteen-low : Ratio
-sixteen-low = binary 152662216296891401 34
+abbrev sixteen_low : Ratio
+sixteen_low = binary 152662216296891401 34
 
-abbrev sixteen-high : Ratio
-sixteen-high = binary 152662216296891402 34
+abbrev sixteen_high : Ratio
+sixteen_high = binary 152662216296891402 34
 
-sixteen-times : whole 16 ⊗ whole 1 ≈ whole 16
+sixteen_times : whole 16 ⊗ whole 1 ≈ whole 16
 unfolding whole ◌⊗◌
-sixteen-times = record { cross = refl }
+sixteen_times = record { cross = refl }
 
-sixteen-lower : sixteen-low ≼ power one-low 16
+sixteen_lower : sixteen_low ≼ power one_low 16
 unfolding binary whole power ◌⊗◌
-sixteen-lower = tested _ _ tt
+sixteen_lower = tested _ _ tt
 
-sixteen-upper : power one-high 16 ≼ sixteen-high
+sixteen_upper : power one_high 16 ≼ sixteen_high
 unfolding binary whole power ◌⊗◌
-sixteen-upper = tested _ _ tt
+sixteen_upper = tested _ _ tt
 
-sixteen-base : Base (whole 16) 337 sixteen-low sixteen-high
-sixteen-base =
+sixteen_base : Base (whole 16) 337 sixteen_low sixteen_high
+sixteen_base =
     record {
-      lower = least-mono (omega arith) (to≼ sixteen-times) (least-times one-base.lower 16) sixteen-lower;
-      upper = most-mono (from≼ sixteen-times) (most-times one-base.upper 16) sixteen-upper;
+      lower = least_mono (omega arith) (to≼ sixteen_times) (least_times one_base.lower 16) sixteen_lower;
+      upper = most_mono (from≼ sixteen_times) (most_times one_base.upper 16) sixteen_upper;
     }
 
-pub sixteen-in : {d : ℕ} {r : Span} → r ≡ get_or sixteenTable d (entry_of 0 0) → d < 32 → ExpIn (whole 1) 10500 1 1709 (whole d ⊗ whole 16) r
-unfolding sixteenTable both low high binary unit whole power ◌⊗◌
-sixteen-in e l = entry_in sixteen-base 10500 1709 sixteenTable tt _ l (omega arith) e
+pub sixteen_in : {d : ℕ} {r : Span} → r ≡ get_or sixteen_table d (entry_of 0 0) → d < 32 → ExpIn (whole 1) 10500 1 1709 (whole d ⊗ whole 16) r
+unfolding sixteen_table both low high binary unit whole power ◌⊗◌
+sixteen_in e l = entry_in sixteen_base 10500 1709 sixteen_table tt _ l (omega arith) e

@@ -6,47 +6,47 @@ use Rattle.span.specs.Enclosing.{divisor, wider}
 use Rattle.fixed.specs.declared.Log.{Log}
 use Rattle.fixed.specs.Logs.{Narrow, Small}
 use Rattle.fixed.specs.Promises.{Scalable, Scaled}
-use Rattle.fixed.specs.Enclosing.{scaled-encloses, ratio-value, larger}
+use Rattle.fixed.specs.Enclosing.{scaled_encloses, ratio_value, larger}
 use Rattle.fixed.specs.Enclosing as multiples
 use Rattle.enclosure.specs.Promises.{reach, Loggable, Logarithm, Exponent, Exponential, Powerable, SixthPower}
-use Rattle.enclosure.specs.Enclosing.{logarithm-encloses, expo-encloses, logarithm-small}
+use Rattle.enclosure.specs.Enclosing.{logarithm_encloses, expo_encloses, logarithm_small}
 
 module _ {t : Span} {p : ℕ} (s : Powerable t p) where
   pub loggable : Loggable t
   loggable = record { normal = s.normal; far = divisor s.normal s.narrow (omega arith); most = omega (arith, s.most) }
 
   module _ {l : Log} (g : Logarithm t l) where
-    small-log : (k : ℕ) → 993 ≤ t.e + k → t.e ≤ 994 + k → Small l (reach k + 2 ^ 10 + 18)
-    small-log k a b = logarithm-small k g s.narrow (omega arith) a b
+    small_log : (k : ℕ) → 993 ≤ t.e + k → t.e ≤ 994 + k → Small l (reach k + 2 ^ 10 + 18)
+    small_log k a b = logarithm_small k g s.narrow (omega arith) a b
 
     small_all : Small l (reach 100 + 2 ^ 10 + 18)
-    small_all = small-log 100 (omega (arith, s.least)) (omega (arith, s.most))
+    small_all = small_log 100 (omega (arith, s.least)) (omega (arith, s.most))
 
     pub scalable : Scalable p l
     scalable = record { left = g.ordered; small = larger (omega arith) small_all; factor = omega (arith, s.sixths) }
 
     module _ {y : Log} (m : Scaled p 6 l y) where
-      small-exponent : Small y (reach 100 + 2 ^ 10 + 18)
-      small-exponent = m.small _ _ small_all (omega (arith, s.sixths))
+      small_exponent : Small y (reach 100 + 2 ^ 10 + 18)
+      small_exponent = m.small _ _ small_all (omega (arith, s.sixths))
 
-      thin-exponent : Narrow y (2 ^ 10 + 18 + 1)
-      thin-exponent = m.width (2 ^ 10 + 18) (2 ^ 10 + 18) (g.width (2 ^ 10) s.narrow (omega arith)) (omega (arith, s.sixths))
+      thin_exponent : Narrow y (2 ^ 10 + 18 + 1)
+      thin_exponent = m.width (2 ^ 10 + 18) (2 ^ 10 + 18) (g.width (2 ^ 10) s.narrow (omega arith)) (omega (arith, s.sixths))
 
       pub exponent : Exponent y
       exponent =
           record {
             ordered = m.ordered;
-            narrow = multiples.wider (omega arith) thin-exponent;
-            least = omega (arith, small-exponent.lo-dn);
-            most = omega (arith, small-exponent.hi-up);
+            narrow = multiples.wider (omega arith) thin_exponent;
+            least = omega (arith, small_exponent.lo_dn);
+            most = omega (arith, small_exponent.hi_up);
           }
 
-      pub sixth-power : {r : Span} → Exponential y r → SixthPower t p r
-      sixth-power x =
+      pub sixth_power : {r : Span} → Exponential y r → SixthPower t p r
+      sixth_power x =
           record {
             normal = x.normal;
-            encloses = λ a e f n l h. expo-encloses x l (scaled-encloses m (ratio-value a p 6 e) (logarithm-encloses g l h));
+            encloses = λ a e f n l h. expo_encloses x l (scaled_encloses m (ratio_value a p 6 e) (logarithm_encloses g l h));
             width = λ D U w d e. wider (omega arith) (x.width (U + 1) (m.width (D + 18) U (g.width D w (omega (arith, d))) e));
-            least = λ k i a b e. x.least i (m.small _ _ (small-log k a b) e).hi-dn;
-            most = λ k i a b e. x.most i (m.small _ _ (small-log k a b) e).hi-up;
+            least = λ k i a b e. x.least i (m.small _ _ (small_log k a b) e).hi_dn;
+            most = λ k i a b e. x.most i (m.small _ _ (small_log k a b) e).hi_up;
           }

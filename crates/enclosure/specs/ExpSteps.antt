@@ -4,19 +4,19 @@ use Rattle.std.specs.Prelude.{◌≡◌, ℕ, ◌+◌, ◌*◌, ◌^◌, ◌≤�
 use Rattle.std.proofs.Common.{pow_pos}
 use Rattle.exact.specs.Fraction.{Ratio, ◌≼◌, whole, ◌⊕◌, ◌⊗◌, power}
 use Rattle.exact.specs.laws.Width.{half}
-use Rattle.exact.specs.LnExp.{expLowerAt, expUpperAt}
+use Rattle.exact.specs.LnExp.{exp_lower_at, exp_upper_at}
 use Rattle.exact.specs.laws.Reduction.{Most, Least, LowerEnd, UpperEnd}
 use Rattle.span.specs.declared.Span.{Span}
-use Rattle.span.specs.Spans.{unit, unit-positive, Normal, Width}
+use Rattle.span.specs.Spans.{unit, unit_positive, Normal, Width}
 use Rattle.fixed.specs.Logs.{fixed}
 use Rattle.enclosure.specs.Promises.{enough, octave}
 
 -- the ends of a span, as fractions from 0 up
 unfoldable pub low : Span → Ratio
-low a = record { num = a.lo * 2 ^ a.e; den = unit; positive = unit-positive }
+low a = record { num = a.lo * 2 ^ a.e; den = unit; positive = unit_positive }
 
 unfoldable pub high : Span → Ratio
-high a = record { num = a.hi * 2 ^ a.e; den = unit; positive = unit-positive }
+high a = record { num = a.hi * 2 ^ a.e; den = unit; positive = unit_positive }
 
 -- m / 2^b
 unfoldable pub binary : ℕ → ℕ → Ratio
@@ -44,8 +44,8 @@ pub record ExpAt (a b : ℕ) (r : Span) : Type 0 where
   pub width : Width r 28
   pub least : (k : ℕ) → b ≤ k * octave → 992 ≤ r.e + k
   pub most : (k : ℕ) → a ≤ k * octave → r.e ≤ 996 + k
-  pub lower : (n : ℕ) → enough ≤ n → LowerEnd (expLowerAt (fixed a b) n) (low r)
-  pub upper : (n : ℕ) → enough ≤ n → UpperEnd (expUpperAt (fixed a b) n) (high r)
+  pub lower : (n : ℕ) → enough ≤ n → LowerEnd (exp_lower_at (fixed a b) n) (low r)
+  pub upper : (n : ℕ) → enough ≤ n → UpperEnd (exp_upper_at (fixed a b) n) (high r)
 
 -- the lower end of x times 1 - d/2^30, and one or two units less
 pub record Lowered (x : Span) (d : ℕ) (r : Span) : Type 0 where

@@ -2,8 +2,8 @@
 -- Assumes nothing.
 use Rattle.std.specs.Prelude.{◌≡◌, ℕ, ◌+◌, ◌*◌, ◌-◌, ◌^◌, ◌≤◌, ◌<◌, ℤ}
 use Rattle.exact.specs.Fraction.{Ratio, Above0, whole, ◌⊕◌, ◌⊗◌, Frac, Positive}
-use Rattle.exact.specs.Series.{gap, seriesLower, seriesUpper}
-use Rattle.exact.specs.LnExp.{ln2Lower, ln2Upper}
+use Rattle.exact.specs.Series.{gap, series_lower, series_upper}
+use Rattle.exact.specs.LnExp.{ln2_lower, ln2_upper}
 use Rattle.exact.specs.laws.Fixed.{Lower, Upper}
 use Rattle.exact.specs.Bracket.{Bracket}
 use Rattle.span.specs.Spans.{units}
@@ -23,8 +23,8 @@ pub record Third (a b : ℕ) : Type 0 where
 
 -- the series at u = a/b: its ends lie from r to r + 6
 pub record Series (a b r : ℕ) : Type 0 where
-  pub below : (z : 0 < b) (n : ℕ) → 20 ≤ n → Lower (2 ^ 30) r (seriesLower (ratio a b z) n)
-  pub above : (z : 0 < b) (n : ℕ) → 20 ≤ n → (h : Above0 (gap (ratio a b z))) → Upper (2 ^ 30) (r + 6) (seriesUpper (ratio a b z) n h)
+  pub below : (z : 0 < b) (n : ℕ) → 20 ≤ n → Lower (2 ^ 30) r (series_lower (ratio a b z) n)
+  pub above : (z : 0 < b) (n : ℕ) → 20 ≤ n → (h : Above0 (gap (ratio a b z))) → Upper (2 ^ 30) (r + 6) (series_upper (ratio a b z) n h)
   pub small : r ≤ 3 * 2 ^ 28
 
 -- k ln 2 and the series
@@ -34,9 +34,9 @@ pub record OctavesOf (k a b : ℕ) : Type 0 where
   pub most : k ≤ 1023
 
 pub record Octaves (k a b r : ℕ) : Type 0 where
-  pub below : (z : 0 < b) (n : ℕ) → 20 ≤ n → Lower (2 ^ 30) r (whole k ⊗ ln2Lower n ⊕ seriesLower (ratio a b z) n)
+  pub below : (z : 0 < b) (n : ℕ) → 20 ≤ n → Lower (2 ^ 30) r (whole k ⊗ ln2_lower n ⊕ series_lower (ratio a b z) n)
   pub above : (z : 0 < b) (n : ℕ) → 20 ≤ n → (h : Above0 (gap (ratio a b z)))
-      → Upper (2 ^ 30) (r + 8) (whole k ⊗ ln2Upper n ⊕ seriesUpper (ratio a b z) n h)
+      → Upper (2 ^ 30) (r + 8) (whole k ⊗ ln2_upper n ⊕ series_upper (ratio a b z) n h)
   pub small : r ≤ reach k
 
 -- A logarithm in a word: 2^40 stands for 0
@@ -45,8 +45,8 @@ unfoldable pub biased : ℕ → Frac
 biased h = fixed h (2 ^ 40)
 
 -- from l to h
-unfoldable pub biasedPair : ℕ → ℕ → Bracket
-biasedPair l h = record { lo = biased l; hi = biased h }
+unfoldable pub biased_pair : ℕ → ℕ → Bracket
+biased_pair l h = record { lo = biased l; hi = biased h }
 
 -- ln at the point m·2^e / 2^1024: its ends lie from h to h + 8
 
@@ -61,7 +61,7 @@ pub record Sided (e x y r : ℕ) : Type 0 where
   pub below : e < 994 → r ≡ y
 
 pub record LnPoint (m e h : ℕ) : Type 0 where
-  pub ends : (z : Positive (units (m * 2 ^ e))) (n : ℕ) → 20 ≤ n → LnWithin (units (m * 2 ^ e)) z n (biasedPair h (h + 8))
+  pub ends : (z : Positive (units (m * 2 ^ e))) (n : ℕ) → 20 ≤ n → LnWithin (units (m * 2 ^ e)) z n (biased_pair h (h + 8))
   pub least : (k : ℕ) → 993 ≤ e + k → 2 ^ 40 ≤ h + (reach k + 8)
   pub most : (k : ℕ) → e ≤ 994 + k → h ≤ 2 ^ 40 + reach k
 

@@ -1,8 +1,8 @@
 -- What ln, e^ and powers of an interval promise: for every point of the argument and every N from `enough` on, the N-th ends of the value there
 -- lie in the result, whose width follows from the argument's. The ends are open but for that. Assumes nothing.
 use Rattle.std.specs.Prelude.{ℕ, ◌+◌, ◌*◌, ◌^◌, ◌≤◌, ◌<◌, ◌≡◌}
-use Rattle.exact.specs.Fraction.{Ratio, ofRatio, Frac, Positive}
-use Rattle.exact.specs.Formula.{Formula, powerOf}
+use Rattle.exact.specs.Fraction.{Ratio, of_ratio, Frac, Positive}
+use Rattle.exact.specs.Formula.{Formula, power_of}
 use Rattle.exact.specs.Holding.{◌∈◌}
 use Rattle.span.specs.declared.Span.{Span}
 use Rattle.span.specs.Spans.{hull, Normal, Width}
@@ -70,7 +70,7 @@ pub record Powerable (t : Span) (p : ℕ) : Type 0 where
 -- for a of the value p/6; the relative width is p/6 of the logarithm's and 31 units; k counts the argument's octaves and i the result's
 pub record SixthPower (t : Span) (p : ℕ) (r : Span) : Type 0 where
   pub normal : Normal r
-  pub encloses : (a : Ratio) → a.num * 6 ≡ p * a.den → (x : Formula) (n : ℕ) → enough ≤ n → Encloses t x n → Encloses r (powerOf (ofRatio a) x) n
+  pub encloses : (a : Ratio) → a.num * 6 ≡ p * a.den → (x : Formula) (n : ℕ) → enough ≤ n → Encloses t x n → Encloses r (power_of (of_ratio a) x) n
   pub width : (D U : ℕ) → Width t D → D ≤ 2 ^ 10 → (D + 18) * p ≤ U * 6 → Width r (U + 31)
   pub least : (k i : ℕ) → 993 ≤ t.e + k → t.e ≤ 994 + k → (reach k + 2 ^ 10 + 18) * p ≤ i * octave * 6 → 992 ≤ r.e + i
   pub most : (k i : ℕ) → 993 ≤ t.e + k → t.e ≤ 994 + k → (reach k + 2 ^ 10 + 18) * p ≤ i * octave * 6 → r.e ≤ 996 + i

@@ -1,6 +1,6 @@
 // Tables of e^: each entry is one unit of 2^-30 wide.
 ghost use Rattle.std.specs.Prelude.{◌≡◌, ◌<◌, get_or};
-ghost use Rattle.enclosure.specs.ExpTables.{entry_of, smallTable, sixteenthTable, oneTable, sixteenTable};
+ghost use Rattle.enclosure.specs.ExpTables.{entry_of, small_table, sixteenth_table, one_table, sixteen_table};
 
 use span::Span;
 
@@ -15,7 +15,7 @@ fn entry(m: u32, e: u32) -> Span
 // e^(d / 256)
 pub(crate) fn small(d: u64) -> Span
     requires { d < 16 }
-    ensures { result ≡ get_or smallTable d (entry_of 0 0) }
+    ensures { result ≡ get_or small_table d (entry_of 0 0) }
 {
     match d {
         0 => entry(1073741824, 994),
@@ -40,7 +40,7 @@ pub(crate) fn small(d: u64) -> Span
 // e^(d / 16)
 pub(crate) fn sixteenths(d: u64) -> Span
     requires { d < 16 }
-    ensures { result ≡ get_or sixteenthTable d (entry_of 0 0) }
+    ensures { result ≡ get_or sixteenth_table d (entry_of 0 0) }
 {
     match d {
         0 => entry(1073741824, 994),
@@ -65,7 +65,7 @@ pub(crate) fn sixteenths(d: u64) -> Span
 // e^d
 pub(crate) fn ones(d: u64) -> Span
     requires { d < 16 }
-    ensures { result ≡ get_or oneTable d (entry_of 0 0) }
+    ensures { result ≡ get_or one_table d (entry_of 0 0) }
 {
     match d {
         0 => entry(1073741824, 994),
@@ -90,7 +90,7 @@ pub(crate) fn ones(d: u64) -> Span
 // e^(16 d)
 pub(crate) fn sixteens(d: u64) -> Span
     requires { d < 32 }
-    ensures { result ≡ get_or sixteenTable d (entry_of 0 0) }
+    ensures { result ≡ get_or sixteen_table d (entry_of 0 0) }
 {
     match d {
         0 => entry(1073741824, 994),

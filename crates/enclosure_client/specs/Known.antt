@@ -5,14 +5,14 @@ use Rattle.std.proofs.Common.{arith}
 use Rattle.exact.specs.Fraction.{Frac}
 use Rattle.exact.specs.Formula.{const, ln, exp}
 use Rattle.span.specs.declared.Span.{Span}
-use Rattle.span.specs.Spans.{wholeF, Width}
+use Rattle.span.specs.Spans.{whole_f, Width}
 use Rattle.span.specs.Enclosing.{Encloses}
 use Rattle.fixed.specs.declared.Log.{Log}
 use Rattle.fixed.specs.Logs.{Narrow, LogEncloses}
 use Rattle.enclosure.specs.Promises.{enough}
 
 pub record Ln3 (r : Log) : Type 0 where
-  pub encloses : (n : ℕ) → enough ≤ n → LogEncloses r (ln (const (wholeF 3))) n
+  pub encloses : (n : ℕ) → enough ≤ n → LogEncloses r (ln (const (whole_f 3))) n
   pub narrow : Narrow r (2 ^ 6)
 
 -- a - b

@@ -6,5 +6,5 @@ use Rattle.fixed.specs.declared.Log.{Log}
 abbrev pub span_of : ℕ → ℕ → ℕ → Span
 span_of l u e = record { lo = l; hi = u; e = e }
 
-abbrev pub logOf : ℤ → ℤ → Log
-logOf l u = record { lo = l; hi = u }
+abbrev pub log_of : ℤ → ℤ → Log
+log_of l u = record { lo = l; hi = u }

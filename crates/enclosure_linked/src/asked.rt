@@ -1,7 +1,7 @@
 // Whether intervals are what an operation asks.
 ghost use Rattle.span.specs.Spans.{Normal, Factors, Divisible};
 ghost use Rattle.enclosure.specs.Promises.{Loggable, Exponent};
-ghost use Rattle.enclosure_linked.specs.Intervals.{logOf};
+ghost use Rattle.enclosure_linked.specs.Intervals.{log_of};
 ghost use Rattle.enclosure_linked.specs.Answers.{Decides};
 
 use span::Span;
@@ -79,7 +79,7 @@ pub(crate) fn divisible(a: Span, b: Span) -> bool
 
 // From -512 to 512, no wider than a quarter.
 pub(crate) fn exponent(lo: i64, hi: i64) -> bool
-    ensures { Decides (Exponent (logOf lo hi)) result }
+    ensures { Decides (Exponent (log_of lo hi)) result }
 {
     if lo <= -549755813888 {
         return false;

@@ -2,7 +2,7 @@
 // `false`, and the lent numbers stay as they were.
 mod asked;
 
-ghost use Rattle.enclosure_linked.specs.Intervals.{span_of, logOf};
+ghost use Rattle.enclosure_linked.specs.Intervals.{span_of, log_of};
 ghost use Rattle.enclosure_linked.specs.Answers.{LnGiven, ExpoGiven, ProductGiven, QuotientGiven};
 
 use fixed::Log;
@@ -11,7 +11,7 @@ use span::Span;
 // ln of the span from m·2^e to n·2^e.
 #[unsafe(no_mangle)]
 pub extern "C" fn enclosure_ln(m: u64, n: u64, e: u32, lower: &mut i64, upper: &mut i64) -> bool
-    ensures { LnGiven (span_of m n e) (logOf lower.old upper.old) (logOf lower.new upper.new) result }
+    ensures { LnGiven (span_of m n e) (log_of lower.old upper.old) (log_of lower.new upper.new) result }
 {
     let t = Span { lo: m, hi: n, e };
     if !asked::loggable(t) {
@@ -34,7 +34,7 @@ pub extern "C" fn enclosure_expo(
     upper: &mut u64,
     exponent: &mut u32,
 ) -> bool
-    ensures { ExpoGiven (logOf y z) (span_of lower.old upper.old exponent.old) (span_of lower.new upper.new exponent.new) result }
+    ensures { ExpoGiven (log_of y z) (span_of lower.old upper.old exponent.old) (span_of lower.new upper.new exponent.new) result }
 {
     if !asked::exponent(y, z) {
         return false;

@@ -4,7 +4,7 @@ use Rattle.std.proofs.Math.Option.{some}
 use Rattle.std.proofs.Common.{arith}
 use Rattle.exact.specs.Fraction.{Frac, ◌⊑◌, ◌⊠◌}
 use Rattle.exact.specs.Bracket.{Bracket, Meet}
-use Rattle.exact.specs.Formula.{Formula, bracketAt}
+use Rattle.exact.specs.Formula.{Formula, bracket_at}
 use Rattle.exact.specs.Exact.{HasBracket, AnyTwoMeet, Closes}
 
 -- a whole number as a fraction, and an interval of two
@@ -23,7 +23,7 @@ times k B = record { lo = whole_z (pos k) ⊠ B.lo; hi = whole_z (pos k) ⊠ B.h
 -- some N has one; any two brackets of x meet; and they close on one number
 pub record ExactBetween (k : ℕ) (x : Formula) (l u : ℤ) : Type 0 where
   pub ordered : whole_z l ⊑ whole_z u
-  pub meets : (n : ℕ) → 1 ≤ n → (B : Bracket) → bracketAt x n ≡ some B → Meet (wholes l u) (times k B)
+  pub meets : (n : ℕ) → 1 ≤ n → (B : Bracket) → bracket_at x n ≡ some B → Meet (wholes l u) (times k B)
   pub there : HasBracket x
   pub agree : AnyTwoMeet x
   pub closes : Closes x

@@ -22,9 +22,9 @@ abbrev pub outward : Frac → Frac → Frac → Frac → Bracket
 outward a b c d = record { lo = smaller (smaller a b) (smaller c d); hi = larger (larger a b) (larger c d) }
 
 -- item 5: `op` over all pairs of ends
-unfoldable pub overPairs : (Frac → Frac → Frac) → Bracket → Bracket → Bracket
-overPairs op A B = outward (op A.lo B.lo) (op A.lo B.hi) (op A.hi B.lo) (op A.hi B.hi)
+unfoldable pub over_pairs : (Frac → Frac → Frac) → Bracket → Bracket → Bracket
+over_pairs op A B = outward (op A.lo B.lo) (op A.lo B.hi) (op A.hi B.lo) (op A.hi B.hi)
 
 -- item 5: x/y as x · 1/y over all pairs of ends, for a divisor wholly above 0
 unfoldable pub quotients : (A B : Bracket) → Positive B.lo → Positive B.hi → Bracket
-quotients A B h k = overPairs ◌⊠◌ A (record { lo = inverse B.lo h; hi = inverse B.hi k })
+quotients A B h k = over_pairs ◌⊠◌ A (record { lo = inverse B.lo h; hi = inverse B.hi k })

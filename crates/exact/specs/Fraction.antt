@@ -59,14 +59,14 @@ pub record ◌⊑◌ (x y : Frac) : Type 0 where
 pub record Positive (x : Frac) : Type 0 where
   pub above : x.minus < x.plus
 
-unfoldable pub ofRatio : Ratio → Frac
-ofRatio r = record { plus = r.num; minus = 0; den = r.den; positive = r.positive }
+unfoldable pub of_ratio : Ratio → Frac
+of_ratio r = record { plus = r.num; minus = 0; den = r.den; positive = r.positive }
 
-unfoldable pub zeroF : Frac
-zeroF = record { plus = 0; minus = 0; den = 1; positive = omega arith }
+unfoldable pub zero_f : Frac
+zero_f = record { plus = 0; minus = 0; den = 1; positive = omega arith }
 
-unfoldable pub oneF : Frac
-oneF = ofRatio (whole 1)
+unfoldable pub one_f : Frac
+one_f = of_ratio (whole 1)
 
 -- x, 0 where it is negative
 unfoldable pub magnitude : Frac → Ratio

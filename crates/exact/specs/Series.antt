@@ -3,30 +3,30 @@ use Rattle.std.specs.Prelude.{ℕ, zero, suc, ◌*◌, ◌^◌, ◌<◌}
 use Rattle.std.proofs.Math.Decide.{dec_le}
 use Rattle.std.proofs.Common.{arith}
 use Rattle.exact.specs.Fraction.{Ratio, Above0, whole, ◌⊕◌, ◌⊗◌, ◌⊖◌, recip, power, sum}
-use Rattle.exact.specs.laws.Positive.{odd_pos, two-pow-pos, factorial-pos, above-suc}
+use Rattle.exact.specs.laws.Positive.{odd_pos, two_pow_pos, factorial_pos, above_suc}
 unfoldable pub use Rattle.exact.specs.Fraction.{even, odd, factorial}
 
-unfoldable pub oneOver : (n : ℕ) → 0 < n → Ratio
-oneOver n h = record { num = 1; den = n; positive = h }
+unfoldable pub one_over : (n : ℕ) → 0 < n → Ratio
+one_over n h = record { num = 1; den = n; positive = h }
 
 -- u^(2j+1)/(2j+1)
-unfoldable pub lnTerm : Ratio → ℕ → Ratio
-lnTerm u j = power u (odd j) ⊗ oneOver (odd j) (odd_pos j)
+unfoldable pub ln_term : Ratio → ℕ → Ratio
+ln_term u j = power u (odd j) ⊗ one_over (odd j) (odd_pos j)
 
 -- 1 - u²
 unfoldable pub gap : Ratio → Ratio
 gap u = whole 1 ⊖ u ⊗ u
 
 -- u^(2N+1)/((2N+1)(1 - u²))
-unfoldable pub lnTail : (u : Ratio) (n : ℕ) → Above0 (gap u) → Ratio
-lnTail u n h = power u (odd n) ⊗ (oneOver (odd n) (odd_pos n) ⊗ recip (gap u) h)
+unfoldable pub ln_tail : (u : Ratio) (n : ℕ) → Above0 (gap u) → Ratio
+ln_tail u n h = power u (odd n) ⊗ (one_over (odd n) (odd_pos n) ⊗ recip (gap u) h)
 
 -- item 1: twice the first N terms, and for the upper end twice the bound on the rest besides
-unfoldable pub seriesLower : Ratio → ℕ → Ratio
-seriesLower u n = whole 2 ⊗ sum (lnTerm u) n
+unfoldable pub series_lower : Ratio → ℕ → Ratio
+series_lower u n = whole 2 ⊗ sum (ln_term u) n
 
-unfoldable pub seriesUpper : (u : Ratio) (n : ℕ) → Above0 (gap u) → Ratio
-seriesUpper u n h = whole 2 ⊗ (sum (lnTerm u) n ⊕ lnTail u n h)
+unfoldable pub series_upper : (u : Ratio) (n : ℕ) → Above0 (gap u) → Ratio
+series_upper u n h = whole 2 ⊗ (sum (ln_term u) n ⊕ ln_tail u n h)
 
 -- how often q can be doubled, n times at most, without passing p
 unfoldable pub climb : ℕ → ℕ → ℕ → ℕ
@@ -38,27 +38,27 @@ unfoldable pub exponent : Ratio → ℕ
 exponent t = climb t.num t.den t.num
 
 unfoldable pub fraction : Ratio → Ratio
-fraction t = t ⊗ oneOver (2 ^ exponent t) (two-pow-pos (exponent t))
+fraction t = t ⊗ one_over (2 ^ exponent t) (two_pow_pos (exponent t))
 
 -- u = (f - 1)/(f + 1)
 unfoldable pub argument : Ratio → Ratio
-argument f = (f ⊖ whole 1) ⊗ recip (f ⊕ whole 1) (above-suc f)
+argument f = (f ⊖ whole 1) ⊗ recip (f ⊕ whole 1) (above_suc f)
 
 -- item 1: u for ln 2
 unfoldable pub third : Ratio
-third = oneOver 3 (omega arith)
+third = one_over 3 (omega arith)
 
 -- y^j/j!
-unfoldable pub expTerm : Ratio → ℕ → Ratio
-expTerm y j = power y j ⊗ record { num = 1; den = factorial j; positive = factorial-pos j }
+unfoldable pub exp_term : Ratio → ℕ → Ratio
+exp_term y j = power y j ⊗ record { num = 1; den = factorial j; positive = factorial_pos j }
 
 -- (y^N/N!)·(N + 1)/(N + 1 - y)
-unfoldable pub expTail : (y : Ratio) (n : ℕ) → Above0 (whole (suc n) ⊖ y) → Ratio
-expTail y n h = expTerm y n ⊗ (whole (suc n) ⊗ recip (whole (suc n) ⊖ y) h)
+unfoldable pub exp_tail : (y : Ratio) (n : ℕ) → Above0 (whole (suc n) ⊖ y) → Ratio
+exp_tail y n h = exp_term y n ⊗ (whole (suc n) ⊗ recip (whole (suc n) ⊖ y) h)
 
 -- item 2: the first N terms, and for the upper end, where N + 1 > y, the bound on the rest besides
-unfoldable pub expLower : Ratio → ℕ → Ratio
-expLower y n = sum (expTerm y) n
+unfoldable pub exp_lower : Ratio → ℕ → Ratio
+exp_lower y n = sum (exp_term y) n
 
-unfoldable pub expUpper : (y : Ratio) (n : ℕ) → Above0 (whole (suc n) ⊖ y) → Ratio
-expUpper y n h = expLower y n ⊕ expTail y n h
+unfoldable pub exp_upper : (y : Ratio) (n : ℕ) → Above0 (whole (suc n) ⊖ y) → Ratio
+exp_upper y n h = exp_lower y n ⊕ exp_tail y n h

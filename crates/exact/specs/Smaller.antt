@@ -3,7 +3,7 @@ use Rattle.std.specs.Prelude.{ℕ, ◌≤◌, ◌≡◌}
 use Rattle.std.proofs.Math.Option.{some}
 use Rattle.exact.specs.Fraction.{◌⊑◌}
 use Rattle.exact.specs.Bracket.{Bracket}
-use Rattle.exact.specs.Formula.{Formula, bracketAt}
+use Rattle.exact.specs.Formula.{Formula, bracket_at}
 
 -- A lies wholly below B: its upper end is less than the other's lower end
 pub record WhollyBelow (A B : Bracket) : Type 0 where
@@ -11,7 +11,7 @@ pub record WhollyBelow (A B : Bracket) : Type 0 where
 
 -- for no M and N does the M-th bracket of x lie wholly below the N-th of y; "for no N" is the case of one place
 pub record NeverBelow (x y : Formula) : Type 0 where
-  pub never : (m n : ℕ) → 1 ≤ m → 1 ≤ n → (A B : Bracket) → bracketAt x m ≡ some A → bracketAt y n ≡ some B → WhollyBelow A B → ⊥
+  pub never : (m n : ℕ) → 1 ≤ m → 1 ≤ n → (A B : Bracket) → bracket_at x m ≡ some A → bracket_at y n ≡ some B → WhollyBelow A B → ⊥
 
 -- x is the smaller: at some N its bracket lies wholly below y's, and for no N wholly above it
 pub record IsSmaller (x y : Formula) : Type 0 where
@@ -19,7 +19,7 @@ pub record IsSmaller (x y : Formula) : Type 0 where
   pub from_one : 1 ≤ place
   pub bracket : Bracket
   pub other : Bracket
-  pub is : bracketAt x place ≡ some bracket
-  pub other-is : bracketAt y place ≡ some other
+  pub is : bracket_at x place ≡ some bracket
+  pub other_is : bracket_at y place ≡ some other
   pub below : WhollyBelow bracket other
-  pub never-above : NeverBelow y x
+  pub never_above : NeverBelow y x

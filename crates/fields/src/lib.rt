@@ -2,13 +2,13 @@
 ghost use Rattle.std.specs.Prelude.{◌≡◌, ◌≤◌, length};
 ghost use Rattle.std.proofs.lemmas.List.Edits.{sets};
 ghost use Rattle.bytes.specs.Storing.{Stored};
-ghost use Rattle.fields.specs.Bytes.{airIn, fields_of, settings, firstBytes, frameBytes, longFrame};
+ghost use Rattle.fields.specs.Bytes.{air_in, fields_of, settings, first_bytes, frame_bytes, long_frame};
 
 use guidance::Case;
 
 // The air pressure: the last two of 24 bytes, else the standard one.
 fn air_in(frame: &[u8]) -> u64
-    ensures { result ≡ airIn frame.now }
+    ensures { result ≡ air_in frame.now }
 {
     if frame.len() == 24 {
         bytes::two_at(frame, 22)
@@ -41,7 +41,7 @@ pub fn read(frame: &[u8]) -> Case
 
 // The bytes that the frame of a case has.
 pub fn size_of(c: Case) -> usize
-    ensures { result ≡ length (frameBytes c) }
+    ensures { result ≡ length (frame_bytes c) }
 {
     if c.air == guidance::STANDARD { 22 } else { 24 }
 }
@@ -60,7 +60,7 @@ pub fn write_settings(s: &mut [u8], substance: u64, state: u64, placement: u64, 
 // All but the air pressure of a case, into the first 22 bytes of s.
 pub fn write_first(s: &mut [u8], c: Case)
     requires { 22 ≤ length s.old }
-    ensures { Stored s.old 0 (firstBytes c) s.new }
+    ensures { Stored s.old 0 (first_bytes c) s.new }
 {
     write_settings(s, c.substance, c.state, c.placement, c.surroundings);
     bytes::put_four(s, 4, c.mass);
@@ -74,7 +74,7 @@ pub fn write_first(s: &mut [u8], c: Case)
 // The frame of a case in 24 bytes, the standard pressure written out too.
 pub fn write_long(s: &mut [u8], c: Case)
     requires { 24 ≤ length s.old }
-    ensures { Stored s.old 0 (longFrame c) s.new }
+    ensures { Stored s.old 0 (long_frame c) s.new }
 {
     write_first(s, c);
     bytes::put_two(s, 22, c.air);
@@ -82,8 +82,8 @@ pub fn write_long(s: &mut [u8], c: Case)
 
 // The frame of a case, into the first 22 or 24 bytes of s.
 pub fn write(s: &mut [u8], c: Case)
-    requires { length (frameBytes c) ≤ length s.old }
-    ensures { s.new ≡ sets s.old 0 (frameBytes c) }
+    requires { length (frame_bytes c) ≤ length s.old }
+    ensures { s.new ≡ sets s.old 0 (frame_bytes c) }
 {
     if c.air != guidance::STANDARD {
         write_long(s, c);

@@ -6,24 +6,24 @@ use native.Mathlib.Omega.{arith}
 use lib.IntN.{ℤ, pos, neg_ℤ, ◌*ℤ◌, ◌-ℤ◌}
 use lib.Signed.{mag, lt_z, shr_z}
 use Rattle.fixed.specs.declared.Log.{Log}
-use Rattle.fixed.specs.FloorAndCeiling.{floorZ, ceilZ, minZ}
+use Rattle.fixed.specs.FloorAndCeiling.{floor_z, ceil_z, min_z}
 use Rattle.fixed.specs.Logs.{Small}
 use Rattle.fixed.specs.Promises.{LogFactors, LogProduct}
-use Rattle.fixed.specs.ProductSteps.{Coarse, Mirror, Pairs, lowestZ}
-use Rattle.fixed.specs.SignedLaws.{one-sided, neg-up, neg-dn, floor-parts, min-of}
+use Rattle.fixed.specs.ProductSteps.{Coarse, Mirror, Pairs, lowest_z}
+use Rattle.fixed.specs.SignedLaws.{one_sided, neg_up, neg_dn, floor_parts, min_of}
 use Rattle.signed.specs.Reading.{R, back}
 use Rattle.signed.specs.Magnitude.{Magnitude, looser, own}
-use Rattle.fixed.proofs.WordSteps.{Step, lower-end, upper-end, opposite, quotient, returned, opposite-step, shift-step, product-size, product-step}
-use Rattle.fixed.proofs.Products.{lowest-of, Around, around, mirrored, law}
+use Rattle.fixed.proofs.WordSteps.{Step, lower_end, upper_end, opposite, quotient, returned, opposite_step, shift_step, product_size, product_step}
+use Rattle.fixed.proofs.Products.{lowest_of, Around, around, mirrored, law}
 
 -- The smaller of two
 
-pub less : (x y : ℤ) → mag x < 2 ^ 63 → mag y < 2 ^ 63 → lt_z (R x) (R y) ≡ true → R x ≡ minZ x y
+pub less : (x y : ℤ) → mag x < 2 ^ 63 → mag y < 2 ^ 63 → lt_z (R x) (R y) ≡ true → R x ≡ min_z x y
 less x y h k t =
     let e : lt_z x y ≡ true = rw (back x h, back y k) at t in
     back x h ∙ sym (ap (λ (b : Bool). cond b x y) e)
 
-pub not-less : (x y : ℤ) → mag x < 2 ^ 63 → mag y < 2 ^ 63 → lt_z (R x) (R y) ≡ false → R y ≡ minZ x y
+pub not-less : (x y : ℤ) → mag x < 2 ^ 63 → mag y < 2 ^ 63 → lt_z (R x) (R y) ≡ false → R y ≡ min_z x y
 not-less x y h k t =
     let e : lt_z x y ≡ false = rw (back x h, back y k) at t in
     back y k ∙ sym (ap (λ (b : Bool). cond b x y) e)
@@ -31,123 +31,123 @@ not-less x y h k t =
 -- The opposites and the fourth parts of the ends
 
 module _ {a : Log} (s : Small a (2 ^ 33)) where
-  lower-size : Magnitude (2 ^ 62) a.lo
-  lower-size = looser (omega arith) (lower-end s)
+  lower_size : Magnitude (2 ^ 62) a.lo
+  lower_size = looser (omega arith) (lower_end s)
 
-  upper-size : Magnitude (2 ^ 62) a.hi
-  upper-size = looser (omega arith) (upper-end s)
+  upper_size : Magnitude (2 ^ 62) a.hi
+  upper_size = looser (omega arith) (upper_end s)
 
-  pub lower-opposite : Step (pos 0 -ℤ R a.lo) (neg_ℤ a.lo)
-  lower-opposite = opposite-step a.lo (own lower-size) lower-size
+  pub lower_opposite : Step (pos 0 -ℤ R a.lo) (neg_ℤ a.lo)
+  lower_opposite = opposite_step a.lo (own lower_size) lower_size
 
-  pub upper-opposite : Step (pos 0 -ℤ R a.hi) (neg_ℤ a.hi)
-  upper-opposite = opposite-step a.hi (own upper-size) upper-size
+  pub upper_opposite : Step (pos 0 -ℤ R a.hi) (neg_ℤ a.hi)
+  upper_opposite = opposite_step a.hi (own upper_size) upper_size
 
-  pub mirror-returns : Mirror a (record { lo = R (pos 0 -ℤ R a.hi); hi = R (pos 0 -ℤ R a.lo) })
-  mirror-returns = record { lower = upper-opposite.read; upper = lower-opposite.read }
+  pub mirror_returns : Mirror a (record { lo = R (pos 0 -ℤ R a.hi); hi = R (pos 0 -ℤ R a.lo) })
+  mirror_returns = record { lower = upper_opposite.read; upper = lower_opposite.read }
 
-  pub coarse-upper : Step (pos 0 -ℤ R (shr_z (R (pos 0 -ℤ R a.hi)) 4)) (ceilZ a.hi 4)
-  coarse-upper =
-      opposite-step (shr_z (R (pos 0 -ℤ R a.hi)) 4) (shift-step (pos 0 -ℤ R a.hi) 4 upper-opposite.read (opposite upper-size)).read
-      (quotient (neg_ℤ a.hi) 4 (opposite upper-size))
+  pub coarse_upper : Step (pos 0 -ℤ R (shr_z (R (pos 0 -ℤ R a.hi)) 4)) (ceil_z a.hi 4)
+  coarse_upper =
+      opposite_step (shr_z (R (pos 0 -ℤ R a.hi)) 4) (shift_step (pos 0 -ℤ R a.hi) 4 upper_opposite.read (opposite upper_size)).read
+      (quotient (neg_ℤ a.hi) 4 (opposite upper_size))
 
-  pub coarse-returns : Coarse a (record { lo = R (shr_z (R a.lo) 4); hi = R (pos 0 -ℤ R (shr_z (R (pos 0 -ℤ R a.hi)) 4)) })
-  coarse-returns = record { lower = (shift-step a.lo 4 (own lower-size) lower-size).read; upper = coarse-upper.read }
+  pub coarse_returns : Coarse a (record { lo = R (shr_z (R a.lo) 4); hi = R (pos 0 -ℤ R (shr_z (R (pos 0 -ℤ R a.hi)) 4)) })
+  coarse_returns = record { lower = (shift_step a.lo 4 (own lower_size) lower_size).read; upper = coarse_upper.read }
 
 -- Products of ends
 
 module _ {a b : Log} (s : Pairs a b) where
   al : Magnitude (2 ^ 31) a.lo
-  al = lower-end s.left
+  al = lower_end s.left
 
   ah : Magnitude (2 ^ 31) a.hi
-  ah = upper-end s.left
+  ah = upper_end s.left
 
   bl : Magnitude (2 ^ 31) b.lo
-  bl = lower-end s.right
+  bl = lower_end s.right
 
   bh : Magnitude (2 ^ 31) b.hi
-  bh = upper-end s.right
+  bh = upper_end s.right
 
-  pub low-low : Step (R a.lo *ℤ R b.lo) (a.lo *ℤ b.lo)
-  low-low = product-step al bl
+  pub low_low : Step (R a.lo *ℤ R b.lo) (a.lo *ℤ b.lo)
+  low_low = product_step al bl
 
-  pub low-high : Step (R a.lo *ℤ R b.hi) (a.lo *ℤ b.hi)
-  low-high = product-step al bh
+  pub low_high : Step (R a.lo *ℤ R b.hi) (a.lo *ℤ b.hi)
+  low_high = product_step al bh
 
-  pub high-low : Step (R a.hi *ℤ R b.lo) (a.hi *ℤ b.lo)
-  high-low = product-step ah bl
+  pub high_low : Step (R a.hi *ℤ R b.lo) (a.hi *ℤ b.lo)
+  high_low = product_step ah bl
 
-  pub high-high : Step (R a.hi *ℤ R b.hi) (a.hi *ℤ b.hi)
-  high-high = product-step ah bh
+  pub high_high : Step (R a.hi *ℤ R b.hi) (a.hi *ℤ b.hi)
+  high_high = product_step ah bh
 
-  pub lowest-size : Magnitude (2 ^ 62) (lowestZ a b)
-  lowest-size = lowest-of (Magnitude (2 ^ 62)) a b (product-size al bl) (product-size al bh) (product-size ah bl) (product-size ah bh)
+  pub lowest_size : Magnitude (2 ^ 62) (lowest_z a b)
+  lowest_size = lowest_of (Magnitude (2 ^ 62)) a b (product_size al bl) (product_size al bh) (product_size ah bl) (product_size ah bh)
 
   -- u and v: the smaller of two products, and w the smaller of these, as the code finds them
-  module _ {u v w : ℤ} (e : u ≡ minZ (R (R a.lo *ℤ R b.lo)) (R (R a.lo *ℤ R b.hi)))
-      (f : v ≡ minZ (R (R a.hi *ℤ R b.lo)) (R (R a.hi *ℤ R b.hi))) (g : w ≡ minZ (R u) (R v)) where
-    first : R u ≡ minZ (a.lo *ℤ b.lo) (a.lo *ℤ b.hi)
+  module _ {u v w : ℤ} (e : u ≡ min_z (R (R a.lo *ℤ R b.lo)) (R (R a.lo *ℤ R b.hi)))
+      (f : v ≡ min_z (R (R a.hi *ℤ R b.lo)) (R (R a.hi *ℤ R b.hi))) (g : w ≡ min_z (R u) (R v)) where
+    first : R u ≡ min_z (a.lo *ℤ b.lo) (a.lo *ℤ b.hi)
     first =
         returned
-        (e ∙ ap (λ (z : ℤ). minZ z (R (R a.lo *ℤ R b.hi))) low-low.read ∙ ap (λ (z : ℤ). minZ (a.lo *ℤ b.lo) z) low-high.read)
-        (min-of (Magnitude (2 ^ 62)) (product-size al bl) (product-size al bh))
+        (e ∙ ap (λ (z : ℤ). min_z z (R (R a.lo *ℤ R b.hi))) low_low.read ∙ ap (λ (z : ℤ). min_z (a.lo *ℤ b.lo) z) low_high.read)
+        (min_of (Magnitude (2 ^ 62)) (product_size al bl) (product_size al bh))
 
-    second : R v ≡ minZ (a.hi *ℤ b.lo) (a.hi *ℤ b.hi)
+    second : R v ≡ min_z (a.hi *ℤ b.lo) (a.hi *ℤ b.hi)
     second =
         returned
-        (f ∙ ap (λ (z : ℤ). minZ z (R (R a.hi *ℤ R b.hi))) high-low.read ∙ ap (λ (z : ℤ). minZ (a.hi *ℤ b.lo) z) high-high.read)
-        (min-of (Magnitude (2 ^ 62)) (product-size ah bl) (product-size ah bh))
+        (f ∙ ap (λ (z : ℤ). min_z z (R (R a.hi *ℤ R b.hi))) high_low.read ∙ ap (λ (z : ℤ). min_z (a.hi *ℤ b.lo) z) high_high.read)
+        (min_of (Magnitude (2 ^ 62)) (product_size ah bl) (product_size ah bh))
 
-    pub lowest-returns : R w ≡ lowestZ a b
-    lowest-returns =
-        returned (g ∙ ap (λ (z : ℤ). minZ z (R v)) first ∙ ap (λ (z : ℤ). minZ (minZ (a.lo *ℤ b.lo) (a.lo *ℤ b.hi)) z) second) lowest-size
+    pub lowest_returns : R w ≡ lowest_z a b
+    lowest_returns =
+        returned (g ∙ ap (λ (z : ℤ). min_z z (R v)) first ∙ ap (λ (z : ℤ). min_z (min_z (a.lo *ℤ b.lo) (a.lo *ℤ b.hi)) z) second) lowest_size
 
 -- The product
 
 fourth : {a c : Log} {M : ℕ} → M ≤ 2 ^ 33 → Small a M → Around a c → Small c (2 ^ 31)
 fourth {a} {c} l s g =
-    let i = one-sided c.lo {N = 2 ^ 31} (omega (arith, g.lower.low, s.lo-up)) (omega (arith, g.lower.high, s.lo-dn)) in
-    let j = one-sided c.hi {N = 2 ^ 31} (omega (arith, g.upper.low, s.hi-up)) (omega (arith, g.upper.high, s.hi-dn)) in
-    record { lo-up = i.0; lo-dn = i.1; hi-up = j.0; hi-dn = j.1 }
+    let i = one_sided c.lo {N = 2 ^ 31} (omega (arith, g.lower.low, s.lo_up)) (omega (arith, g.lower.high, s.lo_dn)) in
+    let j = one_sided c.hi {N = 2 ^ 31} (omega (arith, g.upper.low, s.hi_up)) (omega (arith, g.upper.high, s.hi_dn)) in
+    record { lo_up = i.0; lo_dn = i.1; hi_up = j.0; hi_dn = j.1 }
 
-mirror-small : {c m : Log} → Mirror c m → Small c (2 ^ 31) → Small m (2 ^ 31)
-mirror-small {c} n s =
+mirror_small : {c m : Log} → Mirror c m → Small c (2 ^ 31) → Small m (2 ^ 31)
+mirror_small {c} n s =
     record {
-      lo-up = rw n.lower (omega (arith, neg-up c.hi, s.hi-dn));
-      lo-dn = rw n.lower (omega (arith, neg-dn c.hi, s.hi-up));
-      hi-up = rw n.upper (omega (arith, neg-up c.lo, s.lo-dn));
-      hi-dn = rw n.upper (omega (arith, neg-dn c.lo, s.lo-up));
+      lo_up = rw n.lower (omega (arith, neg_up c.hi, s.hi_dn));
+      lo_dn = rw n.lower (omega (arith, neg_dn c.hi, s.hi_up));
+      hi_up = rw n.upper (omega (arith, neg_up c.lo, s.lo_dn));
+      hi_dn = rw n.upper (omega (arith, neg_dn c.lo, s.lo_up));
     }
 
 module _ {a b c d : Log} (f : LogFactors a b) (g : Coarse a c) (h : Coarse b d) where
-  pub coarse-pairs : Pairs c d
-  coarse-pairs = record { left = fourth (omega arith) f.small-left (around g); right = fourth (omega arith) f.small-right (around h) }
+  pub coarse_pairs : Pairs c d
+  coarse_pairs = record { left = fourth (omega arith) f.small_left (around g); right = fourth (omega arith) f.small_right (around h) }
 
-  pub coarse-small : Small c (2 ^ 33)
-  coarse-small = let s = coarse-pairs.left in omega arith
+  pub coarse_small : Small c (2 ^ 33)
+  coarse_small = let s = coarse_pairs.left in omega arith
 
   module _ {m : Log} (n : Mirror c m) where
-    pub mirror-pairs : Pairs m d
-    mirror-pairs = record { left = mirror-small n coarse-pairs.left; right = coarse-pairs.right }
+    pub mirror_pairs : Pairs m d
+    mirror_pairs = record { left = mirror_small n coarse_pairs.left; right = coarse_pairs.right }
 
-    same : lowestZ m d ≡ lowestZ (mirrored c) d
+    same : lowest_z m d ≡ lowest_z (mirrored c) d
     same =
-        ap (λ (x : ℤ). minZ (minZ (x *ℤ d.lo) (x *ℤ d.hi)) (minZ (m.hi *ℤ d.lo) (m.hi *ℤ d.hi))) n.lower
-        ∙ ap (λ (x : ℤ). minZ (minZ (neg_ℤ c.hi *ℤ d.lo) (neg_ℤ c.hi *ℤ d.hi)) (minZ (x *ℤ d.lo) (x *ℤ d.hi))) n.upper
+        ap (λ (x : ℤ). min_z (min_z (x *ℤ d.lo) (x *ℤ d.hi)) (min_z (m.hi *ℤ d.lo) (m.hi *ℤ d.hi))) n.lower
+        ∙ ap (λ (x : ℤ). min_z (min_z (neg_ℤ c.hi *ℤ d.lo) (neg_ℤ c.hi *ℤ d.hi)) (min_z (x *ℤ d.lo) (x *ℤ d.hi))) n.upper
 
     -- l and q: the least products that the code finds
-    module _ {l q : ℤ} (e : l ≡ lowestZ c d) (k : q ≡ lowestZ m d) where
-      lower : R (shr_z (R l) (2 ^ 26)) ≡ floorZ (lowestZ c d) (2 ^ 26)
-      lower = let w = lowest-size coarse-pairs in (shift-step l (2 ^ 26) (returned e w) w).read
+    module _ {l q : ℤ} (e : l ≡ lowest_z c d) (k : q ≡ lowest_z m d) where
+      lower : R (shr_z (R l) (2 ^ 26)) ≡ floor_z (lowest_z c d) (2 ^ 26)
+      lower = let w = lowest_size coarse_pairs in (shift_step l (2 ^ 26) (returned e w) w).read
 
-      pub upper : Step (pos 0 -ℤ R (shr_z (R q) (2 ^ 26))) (neg_ℤ (floorZ (lowestZ m d) (2 ^ 26)))
+      pub upper : Step (pos 0 -ℤ R (shr_z (R q) (2 ^ 26))) (neg_ℤ (floor_z (lowest_z m d) (2 ^ 26)))
       upper =
-          let w = lowest-size mirror-pairs in
-          opposite-step (shr_z (R q) (2 ^ 26)) (shift-step q (2 ^ 26) (returned k w) w).read (quotient (lowestZ m d) (2 ^ 26) w)
+          let w = lowest_size mirror_pairs in
+          opposite_step (shr_z (R q) (2 ^ 26)) (shift_step q (2 ^ 26) (returned k w) w).read (quotient (lowest_z m d) (2 ^ 26) w)
 
-      pub product-returns : LogProduct a b (record { lo = R (shr_z (R l) (2 ^ 26)); hi = R (pos 0 -ℤ R (shr_z (R q) (2 ^ 26))) })
-      product-returns =
-          law a b c d _ f (around g) (around h) (floorZ (lowestZ (mirrored c) d) (2 ^ 26))
-          (rw lower (floor-parts (lowestZ c d) (2 ^ 26) (omega arith))) (floor-parts (lowestZ (mirrored c) d) (2 ^ 26) (omega arith))
-          (upper.read ∙ ap (λ (z : ℤ). neg_ℤ (floorZ z (2 ^ 26))) same)
+      pub product_returns : LogProduct a b (record { lo = R (shr_z (R l) (2 ^ 26)); hi = R (pos 0 -ℤ R (shr_z (R q) (2 ^ 26))) })
+      product_returns =
+          law a b c d _ f (around g) (around h) (floor_z (lowest_z (mirrored c) d) (2 ^ 26))
+          (rw lower (floor_parts (lowest_z c d) (2 ^ 26) (omega arith))) (floor_parts (lowest_z (mirrored c) d) (2 ^ 26) (omega arith))
+          (upper.read ∙ ap (λ (z : ℤ). neg_ℤ (floor_z z (2 ^ 26))) same)

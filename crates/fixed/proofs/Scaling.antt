@@ -7,12 +7,12 @@ use mir.Syntax.{w64}
 use mir.Val.{to_z}
 use mir.ValLaws.{to_z_pos}
 use Rattle.fixed.specs.declared.Log.{Log}
-use Rattle.fixed.specs.FloorAndCeiling.{floorZ, ceilZ}
+use Rattle.fixed.specs.FloorAndCeiling.{floor_z, ceil_z}
 use Rattle.fixed.specs.Promises.{Scalable, Scaled}
 use Rattle.fixed.specs.Multiples.{scaled}
 use Rattle.signed.specs.Reading.{R}
 use Rattle.signed.specs.Magnitude.{Magnitude}
-use Rattle.fixed.proofs.WordSteps.{Step, lower-end, upper-end, opposite, quotient, returned, opposite-step, multiple-size, multiple-step}
+use Rattle.fixed.proofs.WordSteps.{Step, lower_end, upper_end, opposite, quotient, returned, opposite_step, multiple_size, multiple_step}
 
 module _ {p : ℕ} {a : Log} (s : Scalable p a) where
   factor : to_z w64 p ≡ pos p
@@ -22,26 +22,26 @@ module _ {p : ℕ} {a : Log} (s : Scalable p a) where
   fits = omega (arith, s.factor)
 
   pub lower : Step (R a.lo *ℤ to_z w64 p) (a.lo *ℤ pos p)
-  lower = multiple-step (to_z w64 p) factor (lower-end s.small) (omega arith) fits
+  lower = multiple_step (to_z w64 p) factor (lower_end s.small) (omega arith) fits
 
   pub upper : Step (R a.hi *ℤ to_z w64 p) (a.hi *ℤ pos p)
-  upper = multiple-step (to_z w64 p) factor (upper-end s.small) (omega arith) fits
+  upper = multiple_step (to_z w64 p) factor (upper_end s.small) (omega arith) fits
 
-  upper-size : Magnitude (2 ^ 62) (a.hi *ℤ pos p)
-  upper-size = multiple-size p (upper-end s.small) fits
+  upper_size : Magnitude (2 ^ 62) (a.hi *ℤ pos p)
+  upper_size = multiple_size p (upper_end s.small) fits
 
-  pub upper-opposite : Step (pos 0 -ℤ R (R a.hi *ℤ to_z w64 p)) (neg_ℤ (a.hi *ℤ pos p))
-  upper-opposite = opposite-step (R a.hi *ℤ to_z w64 p) upper.read upper-size
+  pub upper_opposite : Step (pos 0 -ℤ R (R a.hi *ℤ to_z w64 p)) (neg_ℤ (a.hi *ℤ pos p))
+  upper_opposite = opposite_step (R a.hi *ℤ to_z w64 p) upper.read upper_size
 
   -- l and q: the quotients that the division downward gave
-  module _ (d : ℕ) {l q : ℤ} (e : l ≡ floorZ (R (R a.lo *ℤ to_z w64 p)) d) (f : q ≡ floorZ (R (pos 0 -ℤ R (R a.hi *ℤ to_z w64 p))) d) where
-    lower-read : R l ≡ floorZ (a.lo *ℤ pos p) d
-    lower-read = returned (e ∙ ap (λ (z : ℤ). floorZ z d) lower.read) (quotient (a.lo *ℤ pos p) d (multiple-size p (lower-end s.small) fits))
+  module _ (d : ℕ) {l q : ℤ} (e : l ≡ floor_z (R (R a.lo *ℤ to_z w64 p)) d) (f : q ≡ floor_z (R (pos 0 -ℤ R (R a.hi *ℤ to_z w64 p))) d) where
+    lower_read : R l ≡ floor_z (a.lo *ℤ pos p) d
+    lower_read = returned (e ∙ ap (λ (z : ℤ). floor_z z d) lower.read) (quotient (a.lo *ℤ pos p) d (multiple_size p (lower_end s.small) fits))
 
-    pub last : Step (pos 0 -ℤ R q) (ceilZ (a.hi *ℤ pos p) d)
+    pub last : Step (pos 0 -ℤ R q) (ceil_z (a.hi *ℤ pos p) d)
     last =
-        let m = quotient (neg_ℤ (a.hi *ℤ pos p)) d (opposite upper-size) in
-        opposite-step q (returned (f ∙ ap (λ (z : ℤ). floorZ z d) upper-opposite.read) m) m
+        let m = quotient (neg_ℤ (a.hi *ℤ pos p)) d (opposite upper_size) in
+        opposite_step q (returned (f ∙ ap (λ (z : ℤ). floor_z z d) upper_opposite.read) m) m
 
     pub returns : 0 < d → Scaled p d a (record { lo = R l; hi = R (pos 0 -ℤ R q) })
-    returns o = scaled p d a _ o s.left lower-read last.read
+    returns o = scaled p d a _ o s.left lower_read last.read

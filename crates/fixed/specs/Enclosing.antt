@@ -2,12 +2,12 @@
 -- constants, widths and sizes. A proof about a formula is then a term of the formula's shape. Assumes nothing.
 use Rattle.std.specs.Prelude.{◌≡◌, ℕ, suc, ◌+◌, ◌*◌, ◌^◌, ◌≤◌, pos, negsuc}
 use Rattle.std.proofs.Common.{ap, mul-le-mul_right, le_of_mul-le-mul_right, arith}
-use Rattle.exact.specs.Fraction.{neg, Ratio, Frac, ◌⊑◌, ofRatio, ◌⊠◌}
+use Rattle.exact.specs.Fraction.{neg, Ratio, Frac, ◌⊑◌, of_ratio, ◌⊠◌}
 use Rattle.exact.specs.laws.Frac.{⊑_trans, ⊠-comm}
-use Rattle.exact.specs.Formula.{Formula, const, add, sub, mul, bracketAt}
-use Rattle.exact.specs.laws.Containment.{contains-holds}
-use Rattle.exact.specs.laws.Inclusion.{binary-inside, const-inside}
-use Rattle.exact.specs.laws.Points.{point-inside}
+use Rattle.exact.specs.Formula.{Formula, const, add, sub, mul, bracket_at}
+use Rattle.exact.specs.laws.Containment.{contains_holds}
+use Rattle.exact.specs.laws.Inclusion.{binary_inside, const_inside}
+use Rattle.exact.specs.laws.Points.{point_inside}
 use Rattle.exact.specs.Holding.{Holds}
 use Rattle.fixed.specs.declared.Log.{Log}
 use Rattle.fixed.specs.FloorAndCeiling.{up, dn}
@@ -29,35 +29,35 @@ constant c r l h o w =
     }
 
 -- q from 0 up, in an interval from lo to hi
-pub positive-constant : (q : Ratio) (lo hi : ℕ) → lo * q.den ≤ q.num * 2 ^ 30 → q.num * 2 ^ 30 ≤ hi * q.den → lo ≤ hi → hi ≤ lo + 1
-    → LogConstant (ofRatio q) (record { lo = pos lo; hi = pos hi })
-unfolding ofRatio
-positive-constant q lo hi l h o w = constant (ofRatio q) _ (omega arith) (omega arith) (omega arith) (omega arith)
+pub positive_constant : (q : Ratio) (lo hi : ℕ) → lo * q.den ≤ q.num * 2 ^ 30 → q.num * 2 ^ 30 ≤ hi * q.den → lo ≤ hi → hi ≤ lo + 1
+    → LogConstant (of_ratio q) (record { lo = pos lo; hi = pos hi })
+unfolding of_ratio
+positive_constant q lo hi l h o w = constant (of_ratio q) _ (omega arith) (omega arith) (omega arith) (omega arith)
 
 -- minus q, in an interval from -(lo + 1) to -(hi + 1)
-pub negative-constant : (q : Ratio) (lo hi : ℕ) → q.num * 2 ^ 30 ≤ suc lo * q.den → suc hi * q.den ≤ q.num * 2 ^ 30 → hi ≤ lo → lo ≤ hi + 1
-    → LogConstant (neg (ofRatio q)) (record { lo = negsuc lo; hi = negsuc hi })
-unfolding ofRatio neg
-negative-constant q lo hi l h o w = constant (neg (ofRatio q)) _ (omega arith) (omega arith) (omega arith) (omega arith)
+pub negative_constant : (q : Ratio) (lo hi : ℕ) → q.num * 2 ^ 30 ≤ suc lo * q.den → suc hi * q.den ≤ q.num * 2 ^ 30 → hi ≤ lo → lo ≤ hi + 1
+    → LogConstant (neg (of_ratio q)) (record { lo = negsuc lo; hi = negsuc hi })
+unfolding of_ratio neg
+negative_constant q lo hi l h o w = constant (neg (of_ratio q)) _ (omega arith) (omega arith) (omega arith) (omega arith)
 
-pub constant-encloses : {c : Frac} {r : Log} → LogConstant c r → (n : ℕ) → LogEncloses r (const c) n
-constant-encloses {c} {r} k n = record { inside = const-inside c n (bracket r) k.holds }
+pub constant_encloses : {c : Frac} {r : Log} → LogConstant c r → (n : ℕ) → LogEncloses r (const c) n
+constant_encloses {c} {r} k n = record { inside = const_inside c n (bracket r) k.holds }
 
 -- Operations
 
-pub sum-encloses : {a b r : Log} {x y : Formula} {n : ℕ} → LogSum a b r → LogEncloses a x n → LogEncloses b y n → LogEncloses r (add x y) n
-unfolding bracketAt
-sum-encloses {x = x} {y = y} {n = n} s h k = record { inside = binary-inside x y n h.inside k.inside s.holds }
+pub sum_encloses : {a b r : Log} {x y : Formula} {n : ℕ} → LogSum a b r → LogEncloses a x n → LogEncloses b y n → LogEncloses r (add x y) n
+unfolding bracket_at
+sum_encloses {x = x} {y = y} {n = n} s h k = record { inside = binary_inside x y n h.inside k.inside s.holds }
 
-pub difference-encloses : {a b r : Log} {x y : Formula} {n : ℕ} → LogDifference a b r → LogEncloses a x n → LogEncloses b y n
+pub difference_encloses : {a b r : Log} {x y : Formula} {n : ℕ} → LogDifference a b r → LogEncloses a x n → LogEncloses b y n
     → LogEncloses r (sub x y) n
-unfolding bracketAt
-difference-encloses {x = x} {y = y} {n = n} s h k = record { inside = binary-inside x y n h.inside k.inside s.holds }
+unfolding bracket_at
+difference_encloses {x = x} {y = y} {n = n} s h k = record { inside = binary_inside x y n h.inside k.inside s.holds }
 
-pub product-encloses : {a b r : Log} {x y : Formula} {n : ℕ} → LogProduct a b r → LogEncloses a x n → LogEncloses b y n
+pub product_encloses : {a b r : Log} {x y : Formula} {n : ℕ} → LogProduct a b r → LogEncloses a x n → LogEncloses b y n
     → LogEncloses r (mul x y) n
-unfolding bracketAt
-product-encloses {x = x} {y = y} {n = n} s h k = record { inside = binary-inside x y n h.inside k.inside s.holds }
+unfolding bracket_at
+product_encloses {x = x} {y = y} {n = n} s h k = record { inside = binary_inside x y n h.inside k.inside s.holds }
 
 -- Multiples
 
@@ -69,38 +69,38 @@ held c p d e u l h =
     let least : p * u.den + u.minus * d ≤ u.plus * d = le_of_mul-le-mul_right {k = c.den} (omega (arith, mul-le-mul_right d l.cross, scaled)) c.positive in
     record { equal = omega arith }
 
-pub scaled-encloses : {p d : ℕ} {a r : Log} {c : Frac} {x : Formula} {n : ℕ} → Scaled p d a r → Value c p d → LogEncloses a x n
+pub scaled_encloses : {p d : ℕ} {a r : Log} {c : Frac} {x : Formula} {n : ℕ} → Scaled p d a r → Value c p d → LogEncloses a x n
     → LogEncloses r (mul (const c) x) n
-unfolding bracketAt
-scaled-encloses {p} {d} {c = c} {x = x} {n = n} s e h =
+unfolding bracket_at
+scaled_encloses {p} {d} {c = c} {x = x} {n = n} s e h =
     record {
       inside =
-          binary-inside (const c) x n (point-inside c n) h.inside
+          binary_inside (const c) x n (point_inside c n) h.inside
           λ u q i j. s.holds u q (held c p d e u i.above i.below) j;
     }
 
 -- the constant behind
-pub scaled-encloses-right : {p d : ℕ} {a r : Log} {c : Frac} {x : Formula} {n : ℕ} → Scaled p d a r → Value c p d → LogEncloses a x n
+pub scaled_encloses_right : {p d : ℕ} {a r : Log} {c : Frac} {x : Formula} {n : ℕ} → Scaled p d a r → Value c p d → LogEncloses a x n
     → LogEncloses r (mul x (const c)) n
-unfolding bracketAt
-scaled-encloses-right {p} {d} {c = c} {x = x} {n = n} s e h =
+unfolding bracket_at
+scaled_encloses_right {p} {d} {c = c} {x = x} {n = n} s e h =
     record {
       inside =
-          binary-inside x (const c) n h.inside (point-inside c n)
+          binary_inside x (const c) n h.inside (point_inside c n)
           λ q u j i.
           let m = s.holds u q (held c p d e u i.above i.below) j in
           record { above = ⊑_trans m.above (⊠-comm u q); below = ⊑_trans (⊠-comm q u) m.below };
     }
 
 -- the value of a fraction from 0 up
-pub ratio-value : (c : Ratio) (p d : ℕ) → c.num * d ≡ p * c.den → Value (ofRatio c) p d
-unfolding ofRatio
-ratio-value c p d e = record { equal = omega (arith, e) }
+pub ratio_value : (c : Ratio) (p d : ℕ) → c.num * d ≡ p * c.den → Value (of_ratio c) p d
+unfolding of_ratio
+ratio_value c p d e = record { equal = omega (arith, e) }
 
 -- At the end: an interval that contains one bracket holds the exact value
 
-pub encloses-holds : {r : Log} {x : Formula} {n : ℕ} → 1 ≤ n → LogEncloses r x n → Holds (bracket r) x
-encloses-holds {r} {x} {n} o h = contains-holds x n o (bracket r) h.inside
+pub encloses_holds : {r : Log} {x : Formula} {n : ℕ} → 1 ≤ n → LogEncloses r x n → Holds (bracket r) x
+encloses_holds {r} {x} {n} o h = contains_holds x n o (bracket r) h.inside
 
 -- Widths and sizes
 

@@ -5,7 +5,7 @@ use Rattle.std.proofs.Math.Option.{some}
 use Rattle.std.proofs.Common.{pow_pos}
 use Rattle.exact.specs.Fraction.{Frac}
 use Rattle.exact.specs.Bracket.{Bracket}
-use Rattle.exact.specs.Formula.{Formula, bracketAt}
+use Rattle.exact.specs.Formula.{Formula, bracket_at}
 use Rattle.exact.specs.laws.Containment.{Inside}
 use Rattle.fixed.specs.declared.Log.{Log}
 pub use Rattle.fixed.specs.FloorAndCeiling.{up, dn}
@@ -15,12 +15,12 @@ unfoldable pub fixed : ℕ → ℕ → Frac
 fixed a b = record { plus = a; minus = b; den = 2 ^ 30; positive = pow_pos 30 }
 
 -- z / 2^30
-abbrev pub fixedZ : ℤ → Frac
-fixedZ z = fixed (up z) (dn z)
+abbrev pub fixed_z : ℤ → Frac
+fixed_z z = fixed (up z) (dn z)
 
 -- the bracket that an interval stands for: `p ∈ bracket r` says that the fraction p lies in r
 unfoldable pub bracket : Log → Bracket
-bracket r = record { lo = fixedZ r.lo; hi = fixedZ r.hi }
+bracket r = record { lo = fixed_z r.lo; hi = fixed_z r.hi }
 
 -- hi - lo, where that is not negative
 abbrev pub apart : ℤ → ℤ → ℕ
@@ -36,11 +36,11 @@ pub record Narrow (r : Log) (W : ℕ) : Type 0 where
 
 -- both ends within M units of 0
 pub record Small (r : Log) (M : ℕ) : Type 0 where
-  pub lo-up : up r.lo ≤ M
-  pub lo-dn : dn r.lo ≤ M
-  pub hi-up : up r.hi ≤ M
-  pub hi-dn : dn r.hi ≤ M
+  pub lo_up : up r.lo ≤ M
+  pub lo_dn : dn r.lo ≤ M
+  pub hi_up : up r.hi ≤ M
+  pub hi_dn : dn r.hi ≤ M
 
 -- r contains the n-th bracket of x
 pub record LogEncloses (r : Log) (x : Formula) (n : ℕ) : Type 0 where
-  pub inside : Inside (bracketAt x n) (some (bracket r))
+  pub inside : Inside (bracket_at x n) (some (bracket r))

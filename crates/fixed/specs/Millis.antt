@@ -5,7 +5,7 @@ use Rattle.std.proofs.Common.{arith}
 use Rattle.exact.specs.Fraction.{Frac}
 use Rattle.exact.specs.Bracket.{Bracket}
 use Rattle.fixed.specs.declared.Log.{Log}
-use Rattle.fixed.specs.FloorAndCeiling.{up, dn, floorZ, ceilZ}
+use Rattle.fixed.specs.FloorAndCeiling.{up, dn, floor_z, ceil_z}
 use Rattle.fixed.specs.Logs.{Ordered, Small}
 
 -- what is asked: both ends at most 2^20
@@ -13,11 +13,11 @@ pub record Countable (y : Log) : Type 0 where
   pub ordered : Ordered y
   pub small : Small y (2 ^ 50)
 
-unfoldable pub floorMilli : Log → ℤ
-floorMilli y = floorZ (y.lo *ℤ pos 1000) (2 ^ 30)
+unfoldable pub floor_milli : Log → ℤ
+floor_milli y = floor_z (y.lo *ℤ pos 1000) (2 ^ 30)
 
-unfoldable pub ceilMilli : Log → ℤ
-ceilMilli y = ceilZ (y.hi *ℤ pos 1000) (2 ^ 30)
+unfoldable pub ceil_milli : Log → ℤ
+ceil_milli y = ceil_z (y.hi *ℤ pos 1000) (2 ^ 30)
 
 -- z / 1000
 unfoldable pub milli : ℤ → Frac

@@ -18,8 +18,8 @@ pub record LogConstant (c : Frac) (r : Log) : Type 0 where
 pub record Summands (a b : Log) : Type 0 where
   pub left : Ordered a
   pub right : Ordered b
-  pub small-left : Small a (2 ^ 61)
-  pub small-right : Small b (2 ^ 61)
+  pub small_left : Small a (2 ^ 61)
+  pub small_right : Small b (2 ^ 61)
 
 pub record LogSum (a b r : Log) : Type 0 where
   pub ordered : Ordered r
@@ -38,8 +38,8 @@ pub record LogDifference (a b r : Log) : Type 0 where
 pub record LogFactors (a b : Log) : Type 0 where
   pub left : Ordered a
   pub right : Ordered b
-  pub small-left : Small a (2 ^ 33)
-  pub small-right : Small b (2 ^ 33)
+  pub small_left : Small a (2 ^ 33)
+  pub small_right : Small b (2 ^ 33)
 
 pub record LogProduct (a b r : Log) : Type 0 where
   pub ordered : Ordered r

@@ -1,10 +1,10 @@
 // Intervals of real numbers of either sign, in fixed point: both ends are i64 in units of 2^-30, the lower divided downward and the upper upward, around zero.
 ghost use Rattle.std.specs.Prelude.{◌≡◌, ◌^◌};
-ghost use Rattle.fixed.specs.FloorAndCeiling.{floorZ, minZ};
+ghost use Rattle.fixed.specs.FloorAndCeiling.{floor_z, min_z};
 ghost use Rattle.fixed.specs.Logs.{Small};
 ghost use Rattle.fixed.specs.Promises.{Summands, LogSum, LogDifference, LogFactors, LogProduct, Scalable, Scaled};
-ghost use Rattle.fixed.specs.ProductSteps.{Coarse, Mirror, Pairs, lowestZ};
-ghost use Rattle.fixed.specs.Millis.{Countable, floorMilli, ceilMilli};
+ghost use Rattle.fixed.specs.ProductSteps.{Coarse, Mirror, Pairs, lowest_z};
+ghost use Rattle.fixed.specs.Millis.{Countable, floor_milli, ceil_milli};
 
 // The numbers from lo / 2^30 to hi / 2^30.
 #[derive(Drop)]
@@ -37,7 +37,7 @@ pub fn sub(a: Log, b: Log) -> Log
 
 // x / 6, rounded downward.
 fn floor_sixth(x: i64) -> i64
-    ensures { result ≡ floorZ x 6 }
+    ensures { result ≡ floor_z x 6 }
 {
     if x >= 0 {
         x / 6
@@ -50,7 +50,7 @@ fn floor_sixth(x: i64) -> i64
 
 // x / 10000, rounded downward.
 fn floor_ten_thousandth(x: i64) -> i64
-    ensures { result ≡ floorZ x 10000 }
+    ensures { result ≡ floor_z x 10000 }
 {
     if x >= 0 {
         x / 10000
@@ -91,7 +91,7 @@ pub fn ten_thousandths(a: Log, p: u32) -> Log
 
 // The smaller of two.
 fn lesser(x: i64, y: i64) -> i64
-    ensures { result ≡ minZ x y }
+    ensures { result ≡ min_z x y }
 {
     if x < y { x } else { y }
 }
@@ -123,7 +123,7 @@ fn mirror(a: Log) -> Log
 // The least product of an end of a and an end of b.
 fn lowest(a: Log, b: Log) -> i64
     requires { Pairs a b }
-    ensures { result ≡ lowestZ a b }
+    ensures { result ≡ lowest_z a b }
 {
     let s = a.lo * b.lo;
     let t = a.lo * b.hi;
@@ -154,7 +154,7 @@ pub fn product(a: Log, b: Log) -> Log
 // The lower end in thousandths, rounded downward.
 pub fn floor_milli(y: Log) -> i64
     requires { Countable y }
-    ensures { result ≡ floorMilli y }
+    ensures { result ≡ floor_milli y }
 {
     let x = y.lo * 1000;
     x >> 30
@@ -163,7 +163,7 @@ pub fn floor_milli(y: Log) -> i64
 // The upper end in thousandths, rounded upward.
 pub fn ceil_milli(y: Log) -> i64
     requires { Countable y }
-    ensures { result ≡ ceilMilli y }
+    ensures { result ≡ ceil_milli y }
 {
     let x = y.hi * 1000;
     let z = 0 - x;

@@ -9,25 +9,25 @@ use Rattle.frame.specs.declared.Verdict.TheVariants.{Accepted, Refused}
 use Rattle.hexadecimals.specs.Digits.{bytes_of}
 use Rattle.fields.specs.Bytes.{fields_of}
 use Rattle.refusals.specs.Order.{Test, ◌when◌, first_of, held}
-use Rattle.frame.specs.Tests.{frameTests, lineTests, beyond}
+use Rattle.frame.specs.Tests.{frame_tests, line_tests, beyond}
 
 -- the bytes of an answer frame
-abbrev pub answerLength : ℕ
-answerLength = 77
+abbrev pub answer_length : ℕ
+answer_length = 77
 
 -- tests 7 and 8
-unfoldable pub lastTests : Case → (room : ℕ) → List (Test Refusal)
-lastTests c room = (Beyond when beyond c) ∷ (Space when ltb room answerLength) ∷ []
+unfoldable pub last_tests : Case → (room : ℕ) → List (Test Refusal)
+last_tests c room = (Beyond when beyond c) ∷ (Space when ltb room answer_length) ∷ []
 
 -- the first test that applies refuses the case; a case to which none applies is accepted
-abbrev pub verdictBy : Option Refusal → Case → Verdict
-verdictBy none c = Accepted c
-verdictBy (some r) c = Refused r
+abbrev pub verdict_by : Option Refusal → Case → Verdict
+verdict_by none c = Accepted c
+verdict_by (some r) c = Refused r
 
 -- tests 1 to 8
-unfoldable pub frameVerdict : List ℕ → (room : ℕ) → Verdict
-frameVerdict frame room = verdictBy (first_of (held Faulty (frameTests frame) ++ lastTests (fields_of frame) room)) (fields_of frame)
+unfoldable pub frame_verdict : List ℕ → (room : ℕ) → Verdict
+frame_verdict frame room = verdict_by (first_of (held Faulty (frame_tests frame) ++ last_tests (fields_of frame) room)) (fields_of frame)
 
-unfoldable pub lineVerdict : List ℕ → (room : ℕ) → Verdict
-lineVerdict line room =
-    verdictBy (first_of (held Faulty (lineTests line) ++ lastTests (fields_of (bytes_of line)) room)) (fields_of (bytes_of line))
+unfoldable pub line_verdict : List ℕ → (room : ℕ) → Verdict
+line_verdict line room =
+    verdict_by (first_of (held Faulty (line_tests line) ++ last_tests (fields_of (bytes_of line)) room)) (fields_of (bytes_of line))

@@ -5,8 +5,8 @@ ghost use Rattle.refusals.specs.Faults.{filled};
 ghost use Rattle.limits.specs.Checks.{HeatedIfSound};
 ghost use Rattle.frame.specs.Refusals.{number, code, word};
 ghost use Rattle.frame.specs.Tests.{beyond};
-ghost use Rattle.frame.specs.Verdicts.{frameVerdict, lineVerdict};
-ghost use Rattle.frame.specs.Checks.{frameChecked, lineRead, caseTested, lineChecked, placed, judged};
+ghost use Rattle.frame.specs.Verdicts.{frame_verdict, line_verdict};
+ghost use Rattle.frame.specs.Checks.{frame_checked, line_read, case_tested, line_checked, placed, judged};
 
 use guidance::Case;
 use limits::Checked;
@@ -70,7 +70,7 @@ fn is_either(a: usize, b: usize, n: usize) -> bool
 
 // Tests 1 to 6 of a frame given as bytes.
 pub fn check_frame(frame: &[u8]) -> Checked
-    ensures { result ≡ frameChecked frame.now }
+    ensures { result ≡ frame_checked frame.now }
 {
     if is_either(22, 24, frame.len()) {
         limits::check(fields::read(frame))
@@ -81,7 +81,7 @@ pub fn check_frame(frame: &[u8]) -> Checked
 
 // Tests 1 and 2 of a line, and the case of the frame that it spells. Each length has its own array, so that the loops over it are unrolled.
 fn read_line(line: &[u8]) -> Checked
-    ensures { result ≡ lineRead line.now }
+    ensures { result ≡ line_read line.now }
 {
     if line.len() == 44 {
         let mut frame = [0u8; 22];
@@ -102,7 +102,7 @@ fn read_line(line: &[u8]) -> Checked
 
 // What tests 1 and 2 found stands, else 3 to 6 decide.
 fn test_case(s: Checked) -> Checked
-    ensures { result ≡ caseTested s }
+    ensures { result ≡ case_tested s }
 {
     match s {
         Checked::Sound(c) => limits::check(c),
@@ -112,7 +112,7 @@ fn test_case(s: Checked) -> Checked
 
 // Tests 1 to 6 of a line.
 pub fn check_line(line: &[u8]) -> Checked
-    ensures { result ≡ lineChecked line.now }
+    ensures { result ≡ line_checked line.now }
 {
     let s = read_line(line);
     test_case(s)
@@ -153,7 +153,7 @@ fn judge(s: Checked, room: usize) -> Verdict
 
 // The verdict on a frame given as bytes, with `room` bytes for its answer.
 pub fn decide_frame(frame: &[u8], room: usize) -> Verdict
-    ensures { result ≡ frameVerdict frame.now room }
+    ensures { result ≡ frame_verdict frame.now room }
 {
     let s = check_frame(frame);
     judge(s, room)
@@ -161,7 +161,7 @@ pub fn decide_frame(frame: &[u8], room: usize) -> Verdict
 
 // The verdict on a line, with `room` bytes for its answer.
 pub fn decide_line(line: &[u8], room: usize) -> Verdict
-    ensures { result ≡ lineVerdict line.now room }
+    ensures { result ≡ line_verdict line.now room }
 {
     let s = check_line(line);
     judge(s, room)

@@ -1,10 +1,10 @@
 // The way in from the old form: a line of 116 hexadecimal digits, its tests, and the case frame that it gives.
 ghost use Rattle.std.specs.Prelude.{◌≡◌, false, length};
 ghost use Rattle.refusals.specs.Faults.{filled};
-ghost use Rattle.old_case.specs.Cases.{unusableIn};
+ghost use Rattle.old_case.specs.Cases.{unusable_in};
 ghost use Rattle.from_old.specs.Refusals.{number, code, word};
 ghost use Rattle.from_old.specs.Entry.{FromLine};
-ghost use Rattle.from_old.specs.Steps.{bytesReading, lineReading, UsableIfOld, wholesChecked, heldBy, Entered};
+ghost use Rattle.from_old.specs.Steps.{bytes_reading, line_reading, UsableIfOld, wholes_checked, held_by, Entered};
 
 use guidance::Case;
 use limits::Checked;
@@ -70,7 +70,7 @@ pub fn code_of(v: Verdict) -> u64
 // Tests 15 and 16 of the 58 bytes: all tags before any double.
 fn read_bytes(s: &[u8]) -> Reading
     requires { length s.now ≡ 58 }
-    ensures { result ≡ bytesReading s.now }
+    ensures { result ≡ bytes_reading s.now }
 {
     if old_bytes::is_misplaced(s) {
         return Reading::Unread(Refusal::Tag);
@@ -84,7 +84,7 @@ fn read_bytes(s: &[u8]) -> Reading
 
 // Tests 1, 2, 15 and 16 of an old line.
 fn read_line(line: &[u8]) -> Reading
-    ensures { result ≡ lineReading line.now }
+    ensures { result ≡ line_reading line.now }
 {
     if line.len() == LINE {
         let mut s = [0u8; 58];
@@ -100,15 +100,15 @@ fn read_line(line: &[u8]) -> Reading
 
 // Tests 3 to 6 of the whole numbers, a lost heat under 5.
 fn check(o: OldCase) -> Checked
-    requires { unusableIn o ≡ false }
-    ensures { result ≡ wholesChecked o }
+    requires { unusable_in o ≡ false }
+    ensures { result ≡ wholes_checked o }
 {
     let s = limits::check_values(old_case::case_of(o));
     limits::check_heat(s, old_case::is_heat_lost(o))
 }
 
 fn held(v: writable::Verdict) -> Verdict
-    ensures { result ≡ heldBy v }
+    ensures { result ≡ held_by v }
 {
     match v {
         writable::Verdict::Accepted(c) => Verdict::Accepted(c),

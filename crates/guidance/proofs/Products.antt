@@ -6,7 +6,7 @@ use native.Mathlib.Nat.{mul-le-mul, div-add-mod'}
 use native.Mathlib.Omega.{arith}
 use lib.Dec.{ltb}
 use borrow.Author.Tests.{lt-ltb, le-ltb}
-use Rattle.exact.specs.laws.Tests.{ltb-same}
+use Rattle.exact.specs.laws.Tests.{ltb_same}
 
 abbrev pub half : ℕ
 half = 4294967296
@@ -38,40 +38,40 @@ module _ (a b : ℕ) where
 
 -- every sum on the way fits a word
 module _ (a b : ℕ) (ha : a < 2 ^ 64) (hb : b < 2 ^ 64) where
-  low-most : low a b ≤ 18446744065119617025
-  low-most = half_product (omega arith) (omega arith)
+  low_most : low a b ≤ 18446744065119617025
+  low_most = half_product (omega arith) (omega arith)
 
-  pub mid-most : mid a b < 2 ^ 64
-  mid-most = omega (arith, low-most, half_product {x = a / half} {y = b % half} (omega arith) (omega arith))
+  pub mid_most : mid a b < 2 ^ 64
+  mid_most = omega (arith, low_most, half_product {x = a / half} {y = b % half} (omega arith) (omega arith))
 
-  pub next-most : next a b < 2 ^ 64
-  next-most = omega (arith, half_product {x = a % half} {y = b / half} (omega arith) (omega arith))
+  pub next_most : next a b < 2 ^ 64
+  next_most = omega (arith, half_product {x = a % half} {y = b / half} (omega arith) (omega arith))
 
-  pub carry-most : a / half * (b / half) + mid a b / half < 2 ^ 64
-  carry-most = omega (arith, mid-most, half_product {x = a / half} {y = b / half} (omega arith) (omega arith))
+  pub carry_most : a / half * (b / half) + mid a b / half < 2 ^ 64
+  carry_most = omega (arith, mid_most, half_product {x = a / half} {y = b / half} (omega arith) (omega arith))
 
-  pub high-most : a / half * (b / half) + mid a b / half + next a b / half < 2 ^ 64
-  high-most = omega (arith, mid-most, next-most, half_product {x = a / half} {y = b / half} (omega arith) (omega arith))
+  pub high_most : a / half * (b / half) + mid a b / half + next a b / half < 2 ^ 64
+  high_most = omega (arith, mid_most, next_most, half_product {x = a / half} {y = b / half} (omega arith) (omega arith))
 
 -- Order by words
 
 module _ (h l i m : ℕ) {s t : ℕ} (e : h * 2 ^ 64 + l ≡ s) (f : i * 2 ^ 64 + m ≡ t) where
-  pub high-less : l < 2 ^ 64 → h < i → true ≡ ltb s t
-  high-less k o = sym (lt-ltb s t (omega arith))
+  pub high_less : l < 2 ^ 64 → h < i → true ≡ ltb s t
+  high_less k o = sym (lt-ltb s t (omega arith))
 
-  pub high-more : m < 2 ^ 64 → i < h → false ≡ ltb s t
-  high-more k o = sym (le-ltb s t (omega arith))
+  pub high_more : m < 2 ^ 64 → i < h → false ≡ ltb s t
+  high_more k o = sym (le-ltb s t (omega arith))
 
-  pub low-less : i ≤ h → h ≤ i → ltb l m ≡ ltb s t
-  low-less j k = ltb-same {a = l} {b = m} {m = s} {n = t} (λ o. omega arith) (λ o. omega arith)
+  pub low_less : i ≤ h → h ≤ i → ltb l m ≡ ltb s t
+  low_less j k = ltb_same {a = l} {b = m} {m = s} {n = t} (λ o. omega arith) (λ o. omega arith)
 
 -- Bounds of the factors
 
-pub cube-most : (x : ℕ) → x ≤ 1000000 → x * x * x ≤ 1000000000000000000
-cube-most x h = omega (arith, mul-le-mul (mul-le-mul h h) h)
+pub cube_most : (x : ℕ) → x ≤ 1000000 → x * x * x ≤ 1000000000000000000
+cube_most x h = omega (arith, mul-le-mul (mul-le-mul h h) h)
 
-pub square-most : (x : ℕ) → x ≤ 1000000 → x * x ≤ 1000000000000
-square-most x h = omega (arith, mul-le-mul h h)
+pub square_most : (x : ℕ) → x ≤ 1000000 → x * x ≤ 1000000000000
+square_most x h = omega (arith, mul-le-mul h h)
 
-pub air-parts-most : (air p : ℕ) → air ≤ 110000 → p ≤ 50000 → air * p ≤ 5500000000
-air-parts-most air p h k = omega (arith, mul-le-mul h k)
+pub air_parts_most : (air p : ℕ) → air ≤ 110000 → p ≤ 50000 → air * p ≤ 5500000000
+air_parts_most air p h k = omega (arith, mul-le-mul h k)

@@ -7,12 +7,12 @@ abbrev pub standard : ℕ
 standard = 10130
 
 -- P0 in Pa
-abbrev pub airOf : Case → ℕ
-airOf c = 10 * c.air
+abbrev pub air_of : Case → ℕ
+air_of c = 10 * c.air
 
 -- the case in another air
-unfoldable pub inAir : Case → (air : ℕ) → Case
-inAir c air =
+unfoldable pub in_air : Case → (air : ℕ) → Case
+in_air c air =
     record {
       substance = c.substance;
       state = c.state;

@@ -3,8 +3,8 @@ use Rattle.std.specs.Prelude.{ℕ, ◌*◌, ◌≤◌, ◌≡◌}
 use Rattle.guidance.specs.declared.Case.{Case}
 
 -- unlisted, raised, surroundings 1, c = s = 1, 70 kg; 100 g and 1,013 J/g in the standard air are 01's own
-abbrev pub qIn : (mass heat air state distance : ℕ) → Case
-qIn mass heat air state distance =
+abbrev pub q_in : (mass heat air state distance : ℕ) → Case
+q_in mass heat air state distance =
     record {
       substance = 0;
       state = state;

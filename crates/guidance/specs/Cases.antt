@@ -15,20 +15,20 @@ pub record Fields (c : Case) : Type 0 where
   pub state : c.state ≤ 1
   pub placement : c.placement ≤ 1
   pub surroundings : 1 ≤ c.surroundings
-  pub surroundings-most : c.surroundings ≤ 4
+  pub surroundings_most : c.surroundings ≤ 4
   pub mass : 1 ≤ c.mass
-  pub mass-most : c.mass ≤ 1000000000
+  pub mass_most : c.mass ≤ 1000000000
   pub mean : 1 ≤ c.mean
-  pub mean-most : c.mean ≤ 50000
+  pub mean_most : c.mean ≤ 50000
   pub stoichiometric : 1 ≤ c.stoichiometric
-  pub stoichiometric-most : c.stoichiometric ≤ 50000
-  pub heat-most : c.heat ≤ 150000
+  pub stoichiometric_most : c.stoichiometric ≤ 50000
+  pub heat_most : c.heat ≤ 150000
   pub distance : 1 ≤ c.distance
   pub distance_most : c.distance ≤ 1000000
   pub body : 1 ≤ c.body
-  pub body-most : c.body ≤ 500
+  pub body_most : c.body ≤ 500
   pub air : 5000 ≤ c.air
-  pub air-most : c.air ≤ 11000
+  pub air_most : c.air ≤ 11000
 
 -- accepted: fields in their values, a heat, and Rx not greater than 24
 pub record Accepted (air : ℕ) (c : Case) : Type 0 where

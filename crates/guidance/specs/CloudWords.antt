@@ -18,8 +18,8 @@ abbrev pub reduction : Bool → Ratio
 reduction aerosol = cond aerosol (over 3 4 (omega arith)) (whole 1)
 
 -- E·parts without the 3/4
-unfoldable pub joulesOf : Case → ℕ
-joulesOf c =
+unfoldable pub joules_of : Case → ℕ
+joules_of c =
     c.mass * heat_of c.substance c.heat * cond (eqb c.placement 1) 2 1
     * cond (ltb c.stoichiometric c.mean) c.stoichiometric 1
 
@@ -30,12 +30,12 @@ parts_of c = cond (ltb c.stoichiometric c.mean) c.mean 1
 pub record CloudOf (c : Case) (k : Cloud) : Type 0 where
   pub range : k.range ≡ range_of c
   pub aerosol : k.aerosol ≡ (heterogeneous c && deflagrates c)
-  pub joules-is : k.joules ≡ joulesOf c
+  pub joules_is : k.joules ≡ joules_of c
   pub parts_is : k.parts ≡ parts_of c
   pub joules : 1 ≤ k.joules
-  pub joules-most : k.joules ≤ 15000000000000000000
+  pub joules_most : k.joules ≤ 15000000000000000000
   pub parts : 0 < k.parts
-  pub parts-most : k.parts ≤ 50000
+  pub parts_most : k.parts ≤ 50000
   pub energy : energy c ≈ over k.joules k.parts parts ⊗ reduction k.aerosol
 
 -- a case, its cloud and the air pressure
@@ -50,11 +50,11 @@ pub record Compared (c : Case) (k : Cloud) (air t : ℕ) : Type 0 where
   pub most : t ≤ 13824000000
 
 -- r³P0 < t·E, in millionths and over parts·4: cm³ times `weightOf` against joules times `scaledBy t`
-unfoldable pub weightOf : Cloud → (air : ℕ) → ℕ
-weightOf k air = air * k.parts * cond k.aerosol 4 1
+unfoldable pub weight_of : Cloud → (air : ℕ) → ℕ
+weight_of k air = air * k.parts * cond k.aerosol 4 1
 
-unfoldable pub scaledBy : Cloud → (t : ℕ) → ℕ
-scaledBy k t = t * cond k.aerosol 3 1
+unfoldable pub scaled_by : Cloud → (t : ℕ) → ℕ
+scaled_by k t = t * cond k.aerosol 3 1
 
 -- t/1000000: each of the four in millionths
 abbrev pub millionths : ℕ → Ratio

@@ -11,5 +11,5 @@ ranges =
     ∷ []
 
 -- the table's place for a class in its surroundings
-unfoldable pub rangeAt : (class surroundings : ℕ) → ℕ
-rangeAt class surroundings = get_or (get_or ranges (class - 1) []) (surroundings - 1) 0
+unfoldable pub range_at : (class surroundings : ℕ) → ℕ
+range_at class surroundings = get_or (get_or ranges (class - 1) []) (surroundings - 1) 0

@@ -19,8 +19,8 @@ unfoldable pub betas : List ℕ
 betas = 0 ∷ (class1 ++ (class2 ++ (class3 ++ class4)))
 
 -- β of a substance, 0 where it has none
-unfoldable pub betaOf : ℕ → ℕ
-betaOf substance = get_or betas substance 0
+unfoldable pub beta_of : ℕ → ℕ
+beta_of substance = get_or betas substance 0
 
 -- the class; the unlisted substance is of class 1
 unfoldable pub class_of : ℕ → ℕ
@@ -28,5 +28,5 @@ class_of substance = cond (leb substance 10) 1 (cond (leb substance 27) 2 (cond 
 
 -- J/g: the given heat; where it is 0, 440 times β in hundredths
 unfoldable pub heat_of : (substance given : ℕ) → ℕ
-heat_of substance zero = 440 * betaOf substance
+heat_of substance zero = 440 * beta_of substance
 heat_of substance (suc given) = suc given

@@ -1,12 +1,12 @@
 // The guidance as this product reads it: what is decided exactly of a case, on words.
 ghost use Rattle.std.specs.Prelude.{◌≡◌, ◌&&◌, ◌≤◌, eqb, ltb};
 ghost use Rattle.guidance.specs.Substances.{heat_of};
-ghost use Rattle.guidance.specs.AirPressure.{airOf};
+ghost use Rattle.guidance.specs.AirPressure.{air_of};
 ghost use Rattle.guidance.specs.Clouds.{range_of};
 ghost use Rattle.guidance.specs.Distances.{nearer, farther, cube034, cube24};
-ghost use Rattle.guidance.specs.Waves.{nearField};
+ghost use Rattle.guidance.specs.Waves.{near_field};
 ghost use Rattle.guidance.specs.Cases.{Fields};
-ghost use Rattle.guidance.specs.CloudWords.{Heated, CloudOf, Placed, Compared, joulesOf, weightOf, scaledBy, millionths};
+ghost use Rattle.guidance.specs.CloudWords.{Heated, CloudOf, Placed, Compared, joules_of, weight_of, scaled_by, millionths};
 
 mod arithmetic;
 mod ranges;
@@ -69,7 +69,7 @@ pub fn heat_of(c: Case) -> u64
 // P0 in Pa.
 pub fn air_of(c: Case) -> u64
     requires { Fields c }
-    ensures { result ≡ airOf c }
+    ensures { result ≡ air_of c }
 {
     10 * c.air
 }
@@ -96,7 +96,7 @@ fn is_aerosol(state: u64, range: u64) -> bool
 // E·parts without the 3/4: at most 10^9·150000·2·50000 = 15·10^18, below 2^64.
 fn joules_of(c: Case) -> u64
     requires { Fields c }
-    ensures { result ≡ joulesOf c }
+    ensures { result ≡ joules_of c }
 {
     let raised = c.mass * heat_of(c);
     let ground = arithmetic::choose(c.placement == 1, 2, 1);
@@ -124,7 +124,7 @@ pub fn cloud_of(c: Case) -> Cloud
 // What the cubed distance in cm is multiplied by, for a comparison with `scaled_by` times joules: P0·parts, times 4 where E takes 3/4.
 fn weight_of(k: Cloud, air: u64) -> u64
     requires { (k.parts ≤ 50000) × (air ≤ 110000) }
-    ensures { result ≡ weightOf k air }
+    ensures { result ≡ weight_of k air }
 {
     air * k.parts * arithmetic::choose(k.aerosol, 4, 1)
 }
@@ -132,7 +132,7 @@ fn weight_of(k: Cloud, air: u64) -> u64
 // What the joules are multiplied by: t millionths, times 3 where E takes 3/4.
 fn scaled_by(k: Cloud, t: u64) -> u64
     requires { t ≤ 13824000000 }
-    ensures { result ≡ scaledBy k t }
+    ensures { result ≡ scaled_by k t }
 {
     t * arithmetic::choose(k.aerosol, 3, 1)
 }
@@ -162,7 +162,7 @@ pub fn is_beyond(c: Case, k: Cloud, air: u64) -> bool
 // Whether Rx is below 0.2 in a gas, below 0.25 in a heterogeneous cloud.
 pub fn is_near_field(c: Case, k: Cloud, air: u64) -> bool
     requires { Placed c k air }
-    ensures { result ≡ nearField air c }
+    ensures { result ≡ near_field air c }
 {
     let t = arithmetic::choose(c.state == 1, 15_625, 8_000);
     is_nearer(c, k, air, t)

@@ -1,6 +1,6 @@
 // The speed ranges (003, Table 2): by class and surroundings.
 ghost use Rattle.std.specs.Prelude.{◌≡◌, ◌≤◌};
-ghost use Rattle.guidance.specs.Ranges.{rangeAt};
+ghost use Rattle.guidance.specs.Ranges.{range_at};
 
 use crate::arithmetic;
 
@@ -18,7 +18,7 @@ const RANGES: [[u16; 4]; 4] = [
 
 pub fn range_at(class: u64, surroundings: u64) -> u64
     requires { (1 ≤ class) × (class ≤ 4) × (1 ≤ surroundings) × (surroundings ≤ 4) }
-    ensures { result ≡ rangeAt class surroundings }
+    ensures { result ≡ range_at class surroundings }
 {
     let row = (class - 1) as usize;
     let column = (surroundings - 1) as usize;

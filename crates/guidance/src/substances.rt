@@ -1,6 +1,6 @@
 // The substances (003, Table 1): β and class by number.
 ghost use Rattle.std.specs.Prelude.{◌≡◌};
-ghost use Rattle.guidance.specs.Substances.{betaOf, class_of};
+ghost use Rattle.guidance.specs.Substances.{beta_of, class_of};
 
 use crate::arithmetic;
 
@@ -13,7 +13,7 @@ const BETAS: [u16; 76] = [
 ];
 
 pub fn beta_of(substance: u64) -> u64
-    ensures { result ≡ betaOf substance }
+    ensures { result ≡ beta_of substance }
 {
     if substance < 76 {
         let n = substance as usize;

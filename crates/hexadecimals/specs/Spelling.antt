@@ -1,10 +1,10 @@
 -- What reading a line into bytes gives.
 use Rattle.std.specs.Prelude.{ℕ, ◌*◌, ◌≡◌, Bool, ◌&&◌, cond, List, eqb, length}
-use Rattle.hexadecimals.specs.Digits.{allDigits, bytes_of}
+use Rattle.hexadecimals.specs.Digits.{all_digits, bytes_of}
 
 -- whether a line spells n bytes
 unfoldable pub spells : (n : ℕ) → List ℕ → Bool
-spells n line = eqb (length line) (2 * n) && allDigits line
+spells n line = eqb (length line) (2 * n) && all_digits line
 
 -- whether the line spells as many bytes as there are, and every byte: those that it spells, or those that were there
 pub record Spelled (line before after : List ℕ) (answer : Bool) : Type 0 where

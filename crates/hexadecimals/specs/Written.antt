@@ -7,11 +7,11 @@ unfoldable pub upper : ℕ → ℕ
 upper d = cond (ltb d 10) (48 + d) (55 + d)
 
 -- two digits to a byte, the high one first
-unfoldable pub digitsOf : List ℕ → List ℕ
-digitsOf [] = []
-digitsOf (b ∷ bytes) = upper (b / 16) ∷ upper (b % 16) ∷ digitsOf bytes
+unfoldable pub digits_of : List ℕ → List ℕ
+digits_of [] = []
+digits_of (b ∷ bytes) = upper (b / 16) ∷ upper (b % 16) ∷ digits_of bytes
 
 -- no character is a small letter a to f
-unfoldable pub upperCase : List ℕ → Bool
-upperCase [] = true
-upperCase (b ∷ line) = not (within 97 102 b) && upperCase line
+unfoldable pub upper_case : List ℕ → Bool
+upper_case [] = true
+upper_case (b ∷ line) = not (within 97 102 b) && upper_case line

@@ -1,9 +1,9 @@
 // Hexadecimal digits, either letter case, and the bytes that a line of them spells; bytes written as upper-case digits.
 ghost use Rattle.std.specs.Prelude.{◌≡◌, ◌*◌, ◌≤◌, ◌<◌, length, ltb, ◌&&◌};
 ghost use Rattle.std.proofs.lemmas.List.Edits.{sets};
-ghost use Rattle.hexadecimals.specs.Digits.{within, digitOf};
+ghost use Rattle.hexadecimals.specs.Digits.{within, digit_of};
 ghost use Rattle.hexadecimals.specs.Spelling.{Spelled};
-ghost use Rattle.hexadecimals.specs.Written.{upper, digitsOf};
+ghost use Rattle.hexadecimals.specs.Written.{upper, digits_of};
 ghost use Rattle.hexadecimals.specs.laws.Worth.{Worth};
 
 fn is_within(least: u8, most: u8, x: u8) -> bool
@@ -14,7 +14,7 @@ fn is_within(least: u8, most: u8, x: u8) -> bool
 
 // The digit that a character stands for, or 16.
 fn digit_of(b: u8) -> u8
-    ensures { result ≡ digitOf b }
+    ensures { result ≡ digit_of b }
 {
     if is_within(48, 57, b) {
         return b - 48;
@@ -91,7 +91,7 @@ fn upper_of(d: u8) -> u8
 // Two upper-case digits for each byte of s, at the start of the area.
 pub fn write(s: &[u8], area: &mut [u8])
     requires { 2 * length s.now ≤ length area.old }
-    ensures { area.new ≡ sets area.old 0 (digitsOf s.now) }
+    ensures { area.new ≡ sets area.old 0 (digits_of s.now) }
 {
     let mut i = 0;
     while i < s.len() {

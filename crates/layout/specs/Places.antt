@@ -6,24 +6,24 @@ use Rattle.layout.specs.declared.Probits.{Probits}
 use Rattle.layout.specs.declared.Damages.{Damages}
 use Rattle.layout.specs.Bytes.{words, signeds, halves}
 
-unfoldable pub waveBytes : (pressure impulse : Ends) → List ℕ
-waveBytes p i = words p.lower p.upper ++ words i.lower i.upper
+unfoldable pub wave_bytes : (pressure impulse : Ends) → List ℕ
+wave_bytes p i = words p.lower p.upper ++ words i.lower i.upper
 
-unfoldable pub probitOf : Probit → List ℕ
-probitOf p = signeds p.lower p.upper
+unfoldable pub probit_of : Probit → List ℕ
+probit_of p = signeds p.lower p.upper
 
-unfoldable pub probitBytes : Probits → List ℕ
-probitBytes p = (((probitOf p.first ++ probitOf p.second) ++ probitOf p.third) ++ probitOf p.fourth) ++ probitOf p.fifth
+unfoldable pub probit_bytes : Probits → List ℕ
+probit_bytes p = (((probit_of p.first ++ probit_of p.second) ++ probit_of p.third) ++ probit_of p.fourth) ++ probit_of p.fifth
 
-unfoldable pub damageOf : Ends → List ℕ
-damageOf d = halves d.lower d.upper
+unfoldable pub damage_of : Ends → List ℕ
+damage_of d = halves d.lower d.upper
 
-unfoldable pub damageBytes : Damages → List ℕ
-damageBytes d = (((damageOf d.first ++ damageOf d.second) ++ damageOf d.third) ++ damageOf d.fourth) ++ damageOf d.fifth
+unfoldable pub damage_bytes : Damages → List ℕ
+damage_bytes d = (((damage_of d.first ++ damage_of d.second) ++ damage_of d.third) ++ damage_of d.fourth) ++ damage_of d.fifth
 
-unfoldable pub rangeByte : ℕ → List ℕ
-rangeByte range = range ∷ []
+unfoldable pub range_byte : ℕ → List ℕ
+range_byte range = range ∷ []
 
 -- the 77 bytes
-unfoldable pub answerBytes : (range : ℕ) (pressure impulse : Ends) (probits : Probits) (damages : Damages) → List ℕ
-answerBytes range p i probits damages = ((rangeByte range ++ waveBytes p i) ++ probitBytes probits) ++ damageBytes damages
+unfoldable pub answer_bytes : (range : ℕ) (pressure impulse : Ends) (probits : Probits) (damages : Damages) → List ℕ
+answer_bytes range p i probits damages = ((range_byte range ++ wave_bytes p i) ++ probit_bytes probits) ++ damage_bytes damages

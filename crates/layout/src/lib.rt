@@ -6,7 +6,7 @@ ghost use Rattle.std.specs.Int.Signed.{mag};
 ghost use Rattle.bytes.specs.Storing.{Stored};
 ghost use Rattle.layout.specs.Bytes.{twos, words};
 ghost use Rattle.layout.specs.Fitting.{Fits, Fit};
-ghost use Rattle.layout.specs.Places.{probitOf, waveBytes, probitBytes, damageOf, damageBytes, rangeByte, answerBytes};
+ghost use Rattle.layout.specs.Places.{probit_of, wave_bytes, probit_bytes, damage_of, damage_bytes, range_byte, answer_bytes};
 
 // The 32 bits of x in two's complement.
 fn bits(x: i64) -> u64
@@ -58,7 +58,7 @@ pub struct Damages {
 // The two ends of a damage, two bytes each.
 fn put_damage(s: &mut [u8], at: usize, d: Ends)
     requires { at + 4 ≤ length s.old }
-    ensures { Stored s.old at (damageOf d) s.new }
+    ensures { Stored s.old at (damage_of d) s.new }
 {
     bytes::put_two(s, at, d.lower);
     bytes::put_two(s, at + 2, d.upper);
@@ -77,7 +77,7 @@ fn put_ends(s: &mut [u8], at: usize, e: Ends)
 fn put_probit(s: &mut [u8], at: usize, p: Probit)
     requires at_in_bounds { at + 8 ≤ length s.old }
     requires fits { Fits p }
-    ensures { Stored s.old at (probitOf p) s.new }
+    ensures { Stored s.old at (probit_of p) s.new }
 {
     let lower = bits(p.lower);
     let upper = bits(p.upper);
@@ -87,7 +87,7 @@ fn put_probit(s: &mut [u8], at: usize, p: Probit)
 // Pressure and impulse, into their own part of the area.
 fn put_wave(s: &mut [u8], pressure: Ends, impulse: Ends)
     requires { 16 ≤ length s.old }
-    ensures { Stored s.old 0 (waveBytes pressure impulse) s.new }
+    ensures { Stored s.old 0 (wave_bytes pressure impulse) s.new }
 {
     put_ends(s, 0, pressure);
     put_ends(s, 8, impulse);
@@ -97,7 +97,7 @@ fn put_wave(s: &mut [u8], pressure: Ends, impulse: Ends)
 fn put_probits(s: &mut [u8], p: Probits)
     requires in_bounds { 40 ≤ length s.old }
     requires fit { Fit p }
-    ensures { Stored s.old 0 (probitBytes p) s.new }
+    ensures { Stored s.old 0 (probit_bytes p) s.new }
 {
     put_probit(s, 0, p.first);
     put_probit(s, 8, p.second);
@@ -109,7 +109,7 @@ fn put_probits(s: &mut [u8], p: Probits)
 // The five damages, into their own part of the area.
 fn put_damages(s: &mut [u8], d: Damages)
     requires { 20 ≤ length s.old }
-    ensures { Stored s.old 0 (damageBytes d) s.new }
+    ensures { Stored s.old 0 (damage_bytes d) s.new }
 {
     put_damage(s, 0, d.first);
     put_damage(s, 4, d.second);
@@ -122,7 +122,7 @@ fn put_damages(s: &mut [u8], d: Damages)
 fn put_range(s: &mut [u8], range: u64)
     requires in_bounds { 1 ≤ length s.old }
     requires range_bound { range < 256 }
-    ensures { Stored s.old 0 (rangeByte range) s.new }
+    ensures { Stored s.old 0 (range_byte range) s.new }
 {
     s[0] = range as u8;
 }
@@ -139,7 +139,7 @@ pub fn put_answer(
     requires in_bounds { 77 ≤ length s.old }
     requires range_bound { range < 256 }
     requires fit { Fit probits }
-    ensures { s.new ≡ sets s.old 0 (answerBytes range pressure impulse probits damages) }
+    ensures { s.new ≡ sets s.old 0 (answer_bytes range pressure impulse probits damages) }
 {
     put_range(s, range);
     put_wave(&mut s[1..17], pressure, impulse);

@@ -15,36 +15,36 @@ use Rattle.places.specs.Holes.{trim}
 use Rattle.places.specs.Places.{contents, stands_for}
 use Rattle.columns.specs.declared.Storing.{Storing}
 use Rattle.columns.specs.declared.Storing.TheVariants.{Written, Space}
-use Rattle.columns.specs.Refusals.{storingCode}
+use Rattle.columns.specs.Refusals.{storing_code}
 use Rattle.columns.specs.Stored.{Stores}
 use Rattle.archive.specs.Archived.{archived}
 use Rattle.sheet_bytes.specs.Packing.{unpacked, size, lent}
-use Rattle.sheet_bytes.specs.laws.Lent.{enough-lent}
-use Rattle.lent_sheet.specs.Calls.{space, archiveTests, Archives}
+use Rattle.sheet_bytes.specs.laws.Lent.{enough_lent}
+use Rattle.lent_sheet.specs.Calls.{space, archive_tests, Archives}
 
-pub short-archive : (s area : List ℕ) → length s < size → Archives s area space area
-unfolding archiveTests first_of
-short-archive s area h =
-    let first : first_of (archiveTests s (length area)) ≡ some space = simp (lt-ltb (length s) size h) in
+pub short_archive : (s area : List ℕ) → length s < size → Archives s area space area
+unfolding archive_tests first_of
+short_archive s area h =
+    let first : first_of (archive_tests s (length area)) ≡ some space = simp (lt-ltb (length s) size h) in
     record { returned = rw first refl; area = rw first refl }
 
 -- the list that unpacked places stand for
-pub unpacked-list : (s : List ℕ) (places : Places) → size ≤ length s → contents places ≡ unpacked 64 s → stands_for places ≡ lent s
+pub unpacked_list : (s : List ℕ) (places : Places) → size ≤ length s → contents places ≡ unpacked 64 s → stands_for places ≡ lent s
 unfolding stands_for
-unpacked-list s places room e = ap trim e ∙ sym (enough-lent s room)
+unpacked_list s places room e = ap trim e ∙ sym (enough_lent s room)
 
-pub archive-stored : {s area : List ℕ} {xs : List (Option Held)} {v : Storing} {n : ℕ} {after : List ℕ} → size ≤ length s → xs ≡ lent s → Stores (archived xs) area v after → n ≡ storingCode v
+pub archive_stored : {s area : List ℕ} {xs : List (Option Held)} {v : Storing} {n : ℕ} {after : List ℕ} → size ≤ length s → xs ≡ lent s → Stores (archived xs) area v after → n ≡ storing_code v
     → Archives s area n after
-unfolding archiveTests first_of
-archive-stored {s} {area} {xs} {v} {n} {after} room same w e = go (ltb (length area) (length bytes)) refl w.verdict w.area
+unfolding archive_tests first_of
+archive_stored {s} {area} {xs} {v} {n} {after} room same w e = go (ltb (length area) (length bytes)) refl w.verdict w.area
   where
     bytes : List ℕ
     bytes = archived xs
 
     go : (b : Bool) → ltb (length area) (length bytes) ≡ b → v ≡ cond b Space (Written (length bytes)) → after ≡ cond b area (sets area 0 bytes) → Archives s area n after
     go true few verdict stands =
-        let first : first_of (archiveTests s (length area)) ≡ some space = simp (le-ltb (length s) size room, ← same, few) in
-        record { returned = rw first (e ∙ ap storingCode verdict); area = rw first stands }
+        let first : first_of (archive_tests s (length area)) ≡ some space = simp (le-ltb (length s) size room, ← same, few) in
+        record { returned = rw first (e ∙ ap storing_code verdict); area = rw first stands }
     go false few verdict stands =
-        let first : first_of (archiveTests s (length area)) ≡ none = simp (le-ltb (length s) size room, ← same, few) in
-        record { returned = rw first (e ∙ ap storingCode verdict); area = rw (first, ← same) stands }
+        let first : first_of (archive_tests s (length area)) ≡ none = simp (le-ltb (length s) size room, ← same, few) in
+        record { returned = rw first (e ∙ ap storing_code verdict); area = rw (first, ← same) stands }

@@ -4,23 +4,23 @@ use Rattle.std.specs.Prelude.{ℕ, ◌+◌, ◌≡◌, List, [], ◌∷◌, ◌+
 use Rattle.std.proofs.Math.Option.{Option, none, some}
 use Rattle.std.proofs.lemmas.List.Edits.{sets}
 use Rattle.refusals.specs.Order.{Test, ◌when◌, first_of, held}
-use Rattle.fields.specs.Bytes.{fields_of, frameBytes}
+use Rattle.fields.specs.Bytes.{fields_of, frame_bytes}
 use Rattle.frame.specs.declared.Refusal.TheVariants.{Space}
 use Rattle.frame.specs.Refusals as answers
-use Rattle.frame.specs.Tests.{frameTests}
+use Rattle.frame.specs.Tests.{frame_tests}
 use Rattle.places.specs.declared.Held.{Held}
 use Rattle.places.specs.Holes.{vacant, at}
-use Rattle.totals.specs.Totals.{totalsOf}
-use Rattle.columns.specs.Stored.{withBytes}
+use Rattle.totals.specs.Totals.{totals_of}
+use Rattle.columns.specs.Stored.{with_bytes}
 use Rattle.archive.specs.Archived.{archived}
 use Rattle.sheet.specs.declared.Refusal.TheVariants.{Full}
 use Rattle.sheet.specs.declared.Vacancy.TheVariants.{Vacant}
-use Rattle.sheet.specs.Refusals.{number, vacancyNumber}
-use Rattle.sheet.specs.Tests.{full, ownTests}
+use Rattle.sheet.specs.Refusals.{number, vacancy_number}
+use Rattle.sheet.specs.Tests.{full, own_tests}
 use Rattle.sheet.specs.Ends.{UpperEnd}
 use Rattle.sheet.specs.Operations.{Operation, act}
 use Rattle.sheet.specs.Operations as sheet
-use Rattle.sheet_bytes.specs.Packing.{sheetBytes, short, lent}
+use Rattle.sheet_bytes.specs.Packing.{sheet_bytes, short, lent}
 
 -- 8: too few bytes are lent
 abbrev pub space : ℕ
@@ -33,28 +33,28 @@ pub data Change : Type 0 where
   close : Change
 
 abbrev pub operation : Change → Operation
-operation (add frame u) = sheet.addFrame frame u
+operation (add frame u) = sheet.add_frame frame u
 operation (withdraw k) = sheet.withdraw k
 operation close = sheet.close
 
 -- the tests, by the refusals' numbers: 1 to 7 of a case that is added, then 8 of the lent sheet, then 17 or 18
-abbrev pub placeTests : (place : ℕ) (s : List ℕ) → List (Test ℕ)
-placeTests k s = (space when short s) ∷ (vacancyNumber Vacant when vacant (at (lent s) k)) ∷ []
+abbrev pub place_tests : (place : ℕ) (s : List ℕ) → List (Test ℕ)
+place_tests k s = (space when short s) ∷ (vacancy_number Vacant when vacant (at (lent s) k)) ∷ []
 
 unfoldable pub tests : Change → (s : List ℕ) → List (Test ℕ)
 tests (add frame u) s =
-    held number (ownTests (frameTests frame) (fields_of frame)) ++ (space when short s) ∷ (number Full when full (lent s)) ∷ []
-tests (withdraw k) s = placeTests k s
+    held number (own_tests (frame_tests frame) (fields_of frame)) ++ (space when short s) ∷ (number Full when full (lent s)) ∷ []
+tests (withdraw k) s = place_tests k s
 tests close s = (space when short s) ∷ []
 
 -- the bytes of the frame that is read at a place
-abbrev pub frameLength : Option Held → ℕ
-frameLength none = 0
-frameLength (some h) = length (frameBytes h.case)
+abbrev pub frame_length : Option Held → ℕ
+frame_length none = 0
+frame_length (some h) = length (frame_bytes h.case)
 
 -- of reading a case, and last 8 of the area
-unfoldable pub showTests : (place : ℕ) (s : List ℕ) (room : ℕ) → List (Test ℕ)
-showTests k s room = placeTests k s ++ (space when ltb room (frameLength (at (lent s) k))) ∷ []
+unfoldable pub show_tests : (place : ℕ) (s : List ℕ) (room : ℕ) → List (Test ℕ)
+show_tests k s room = place_tests k s ++ (space when ltb room (frame_length (at (lent s) k))) ∷ []
 
 -- 0, or the number of the first test that applies
 abbrev pub code : Option ℕ → ℕ
@@ -63,7 +63,7 @@ code (some n) = n
 
 -- the sheet's bytes after an accepted call, those behind it as they were; a refusal leaves all
 abbrev pub left : Option ℕ → (before : List ℕ) → List (Option Held) → List ℕ
-left none before xs = sets before 0 (sheetBytes xs)
+left none before xs = sets before 0 (sheet_bytes xs)
 left (some n) before xs = before
 
 pub record Acts (c : Change) (before : List ℕ) (n : ℕ) (after : List ℕ) : Type 0 where
@@ -84,28 +84,28 @@ pub record Adds (frame before : List ℕ) (place n : ℕ) (after : List ℕ) (pl
 
 -- the frame of the case into the area's first bytes; a refusal leaves all, and a place without a case is refused
 abbrev pub shown : Option ℕ → (area : List ℕ) → Option Held → List ℕ
-shown none area (some h) = sets area 0 (frameBytes h.case)
+shown none area (some h) = sets area 0 (frame_bytes h.case)
 shown none area none = area
 shown (some n) area x = area
 
 pub record Shows (k : ℕ) (sheet before : List ℕ) (n : ℕ) (after : List ℕ) : Type 0 where
-  pub returned : n ≡ code (first_of (showTests k sheet (length before)))
-  pub area : after ≡ shown (first_of (showTests k sheet (length before))) before (at (lent sheet) k)
+  pub returned : n ≡ code (first_of (show_tests k sheet (length before)))
+  pub area : after ≡ shown (first_of (show_tests k sheet (length before))) before (at (lent sheet) k)
 
 -- the totals of the list that the bytes stand for, in three numbers; a refusal leaves them as they were
-abbrev pub totalTests : (s : List ℕ) → List (Test ℕ)
-totalTests s = (space when short s) ∷ []
+abbrev pub total_tests : (s : List ℕ) → List (Test ℕ)
+total_tests s = (space when short s) ∷ []
 
-pub record Totalled (s : List ℕ) (count greatest place n count-after greatest-after place_after : ℕ) : Type 0 where
-  pub returned : n ≡ code (first_of (totalTests s))
-  pub count-is : count-after ≡ told (first_of (totalTests s)) count (totalsOf (lent s)).cases
-  pub greatest-is : greatest-after ≡ told (first_of (totalTests s)) greatest (totalsOf (lent s)).greatest
-  pub place_is : place_after ≡ told (first_of (totalTests s)) place (totalsOf (lent s)).place
+pub record Totalled (s : List ℕ) (count greatest place n count_after greatest_after place_after : ℕ) : Type 0 where
+  pub returned : n ≡ code (first_of (total_tests s))
+  pub count_is : count_after ≡ told (first_of (total_tests s)) count (totals_of (lent s)).cases
+  pub greatest_is : greatest_after ≡ told (first_of (total_tests s)) greatest (totals_of (lent s)).greatest
+  pub place_is : place_after ≡ told (first_of (total_tests s)) place (totals_of (lent s)).place
 
 -- the cases by column at the start of the area: 8 of the lent sheet, and last 8 of the area; a refusal leaves the area as it was
-unfoldable pub archiveTests : (s : List ℕ) (room : ℕ) → List (Test ℕ)
-archiveTests s room = (space when short s) ∷ (space when ltb room (length (archived (lent s)))) ∷ []
+unfoldable pub archive_tests : (s : List ℕ) (room : ℕ) → List (Test ℕ)
+archive_tests s room = (space when short s) ∷ (space when ltb room (length (archived (lent s)))) ∷ []
 
 pub record Archives (s before : List ℕ) (n : ℕ) (after : List ℕ) : Type 0 where
-  pub returned : n ≡ code (first_of (archiveTests s (length before)))
-  pub area : after ≡ withBytes (first_of (archiveTests s (length before))) (archived (lent s)) before
+  pub returned : n ≡ code (first_of (archive_tests s (length before)))
+  pub area : after ≡ with_bytes (first_of (archive_tests s (length before))) (archived (lent s)) before

@@ -2,12 +2,12 @@
 use Rattle.std.specs.Prelude.{ℕ, zero, suc, List, [], ◌∷◌, replicate}
 use Rattle.std.proofs.Math.Option.{Option}
 use Rattle.std.proofs.lemmas.List.Edits.{sets}
-use Rattle.fields.specs.Bytes.{frameBytes}
+use Rattle.fields.specs.Bytes.{frame_bytes}
 use Rattle.places.specs.declared.Held.{Held}
 use Rattle.sheet.specs.declared.Placing.TheVariants as placing
 use Rattle.sheet.specs.declared.Found.{Found}
 use Rattle.sheet.specs.declared.Found.TheVariants as there
-use Rattle.sheet.specs.Refusals.{number, vacancyNumber}
+use Rattle.sheet.specs.Refusals.{number, vacancy_number}
 use Rattle.sheet.specs.Operations as sheet
 use Rattle.sheet.specs.Operations.{Operation, Told, act, found}
 use Rattle.lent_sheet.specs.Calls.{withdraw, close, Acts, Adds, Shows}
@@ -35,7 +35,7 @@ pub data Run : (s : List ℕ) (operations : List Operation) (replies : List Repl
       : {s frame : List ℕ} {place n : ℕ} {u : List ℕ} {k : ℕ} {operations : List Operation} {replies : List Reply} {t : List ℕ} →
       (a : Adds frame s place n u k) →
       Run u operations replies t →
-      Run s (sheet.addFrame frame a.upper ∷ operations) (reply n (placed k) ∷ replies) t
+      Run s (sheet.add_frame frame a.upper ∷ operations) (reply n (placed k) ∷ replies) t
   withdraws
       : {s : List ℕ} {k n : ℕ} {u : List ℕ} {operations : List Operation} {replies : List Reply} {t : List ℕ} →
       Acts (withdraw k) s n u →
@@ -57,20 +57,20 @@ abbrev pub telling : Told → Reply
 telling (sheet.placing (placing.At k)) = placed k
 telling (sheet.placing (placing.Refused r)) = refused (number r)
 telling (sheet.finding (there.Held c)) = done
-telling (sheet.finding (there.Refused v)) = refused (vacancyNumber v)
+telling (sheet.finding (there.Refused v)) = refused (vacancy_number v)
 telling (sheet.counting n) = done
 
 abbrev pub showing : Found → Reply
-showing (there.Held c) = shows (sets blank 0 (frameBytes c))
-showing (there.Refused v) = refused (vacancyNumber v)
+showing (there.Held c) = shows (sets blank 0 (frame_bytes c))
+showing (there.Refused v) = refused (vacancy_number v)
 
-unfoldable pub replyOf : List (Option Held) → Operation → Reply
-replyOf xs (sheet.addFrame frame u) = telling (act xs (sheet.addFrame frame u)).told
-replyOf xs (sheet.addLine line u) = telling (act xs (sheet.addLine line u)).told
-replyOf xs (sheet.withdraw k) = telling (act xs (sheet.withdraw k)).told
-replyOf xs sheet.close = telling (act xs sheet.close).told
-replyOf xs (sheet.case_at k) = showing (found xs k)
+unfoldable pub reply_of : List (Option Held) → Operation → Reply
+reply_of xs (sheet.add_frame frame u) = telling (act xs (sheet.add_frame frame u)).told
+reply_of xs (sheet.add_line line u) = telling (act xs (sheet.add_line line u)).told
+reply_of xs (sheet.withdraw k) = telling (act xs (sheet.withdraw k)).told
+reply_of xs sheet.close = telling (act xs sheet.close).told
+reply_of xs (sheet.case_at k) = showing (found xs k)
 
 unfoldable pub replied : List (Option Held) → List Operation → List Reply
 replied xs [] = []
-replied xs (o ∷ operations) = replyOf xs o ∷ replied (act xs o).list operations
+replied xs (o ∷ operations) = reply_of xs o ∷ replied (act xs o).list operations

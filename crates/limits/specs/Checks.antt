@@ -8,24 +8,24 @@ use Rattle.refusals.specs.declared.Fault.TheVariants.{Quantity, Heat}
 use Rattle.refusals.specs.Order.{first_of}
 use Rattle.limits.specs.declared.Checked.{Checked}
 use Rattle.limits.specs.declared.Checked.TheVariants.{Sound, Unsound}
-use Rattle.limits.specs.Tests.{heatMissing, valueTests, fieldTests}
+use Rattle.limits.specs.Tests.{heat_missing, value_tests, field_tests}
 
-abbrev pub checkedBy : Option Fault → Case → Checked
-checkedBy none c = Sound c
-checkedBy (some f) c = Unsound f
+abbrev pub checked_by : Option Fault → Case → Checked
+checked_by none c = Sound c
+checked_by (some f) c = Unsound f
 
 -- by tests 3 to 5
-abbrev pub valuesChecked : Case → Checked
-valuesChecked c = checkedBy (first_of (valueTests c)) c
+abbrev pub values_checked : Case → Checked
+values_checked c = checked_by (first_of (value_tests c)) c
 
 -- what those found stands; then 5 for a heat that was given and lost, as only the old form has it (request 3); else test 6 decides
-abbrev pub heatChecked : (lost : Bool) → Checked → Checked
-heatChecked lost (Sound c) = cond lost (Unsound Quantity) (cond (heatMissing c) (Unsound Heat) (Sound c))
-heatChecked lost (Unsound f) = Unsound f
+abbrev pub heat_checked : (lost : Bool) → Checked → Checked
+heat_checked lost (Sound c) = cond lost (Unsound Quantity) (cond (heat_missing c) (Unsound Heat) (Sound c))
+heat_checked lost (Unsound f) = Unsound f
 
 -- by tests 3 to 6
-abbrev pub caseChecked : Case → Checked
-caseChecked c = checkedBy (first_of (fieldTests c)) c
+abbrev pub case_checked : Case → Checked
+case_checked c = checked_by (first_of (field_tests c)) c
 
 -- a case that passed them has its fields in their values, and a heat
 abbrev pub HeatedIfSound : Checked → Type 0

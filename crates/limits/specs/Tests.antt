@@ -2,7 +2,7 @@
 use Rattle.std.specs.Prelude.{ℕ, Bool, not, ◌&&◌, ◌||◌, List, [], ◌∷◌, ◌++◌, eqb}
 use Rattle.hexadecimals.specs.Digits.{within}
 use Rattle.guidance.specs.declared.Case.{Case}
-use Rattle.guidance.specs.Substances.{betaOf}
+use Rattle.guidance.specs.Substances.{beta_of}
 use Rattle.refusals.specs.declared.Fault.{Fault}
 use Rattle.refusals.specs.declared.Fault.TheVariants.{Substance, State, Placement, Surroundings, Quantity, Heat}
 use Rattle.refusals.specs.Order.{Test, ◌when◌}
@@ -11,8 +11,8 @@ use Rattle.refusals.specs.Order.{Test, ◌when◌}
 abbrev pub outside : (least most x : ℕ) → Bool
 outside least most x = not (within least most x)
 
-unfoldable pub quantityOutside : Case → Bool
-quantityOutside c =
+unfoldable pub quantity_outside : Case → Bool
+quantity_outside c =
     outside 1 1000000000 c.mass
     || outside 1 50000 c.mean
     || outside 1 50000 c.stoichiometric
@@ -22,23 +22,23 @@ quantityOutside c =
     || outside 5000 11000 c.air
 
 -- heat 0, and the substance has no β
-unfoldable pub heatMissing : Case → Bool
-heatMissing c = eqb c.heat 0 && eqb (betaOf c.substance) 0
+unfoldable pub heat_missing : Case → Bool
+heat_missing c = eqb c.heat 0 && eqb (beta_of c.substance) 0
 
 -- tests 3 to 5, the three settings in the order of the frame
-unfoldable pub valueTests : Case → List (Test Fault)
-valueTests c =
+unfoldable pub value_tests : Case → List (Test Fault)
+value_tests c =
     (Substance when outside 0 75 c.substance)
     ∷ (State when outside 0 1 c.state)
     ∷ (Placement when outside 0 1 c.placement)
     ∷ (Surroundings when outside 1 4 c.surroundings)
-    ∷ (Quantity when quantityOutside c)
+    ∷ (Quantity when quantity_outside c)
     ∷ []
 
 -- 5 once more, for a heat that was given and lost, as only the old form has it (request 3), and 6
-abbrev pub heatTests : (lost : Bool) → Case → List (Test Fault)
-heatTests lost c = (Quantity when lost) ∷ (Heat when heatMissing c) ∷ []
+abbrev pub heat_tests : (lost : Bool) → Case → List (Test Fault)
+heat_tests lost c = (Quantity when lost) ∷ (Heat when heat_missing c) ∷ []
 
 -- tests 3 to 6
-unfoldable pub fieldTests : Case → List (Test Fault)
-fieldTests c = valueTests c ++ (Heat when heatMissing c) ∷ []
+unfoldable pub field_tests : Case → List (Test Fault)
+field_tests c = value_tests c ++ (Heat when heat_missing c) ∷ []

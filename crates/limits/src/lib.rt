@@ -1,7 +1,7 @@
 // Tests 3 to 6, with 12 to 14 in the place of 4: whether each field of a case holds one of its values, and whether the case has a heat.
 ghost use Rattle.std.specs.Prelude.{◌≡◌};
-ghost use Rattle.limits.specs.Tests.{outside, quantityOutside, heatMissing};
-ghost use Rattle.limits.specs.Checks.{valuesChecked, heatChecked, caseChecked};
+ghost use Rattle.limits.specs.Tests.{outside, quantity_outside, heat_missing};
+ghost use Rattle.limits.specs.Checks.{values_checked, heat_checked, case_checked};
 
 use guidance::Case;
 use refusals::Fault;
@@ -21,7 +21,7 @@ pub fn is_outside(least: u64, most: u64, x: u64) -> bool
 }
 
 fn quantity_outside(c: Case) -> bool
-    ensures { result ≡ quantityOutside c }
+    ensures { result ≡ quantity_outside c }
 {
     let mass = is_outside(1, 1000000000, c.mass);
     let mean = is_outside(1, 50000, c.mean);
@@ -37,14 +37,14 @@ fn quantity_outside(c: Case) -> bool
 
 // Test 6: heat 0, and the substance has none of its own.
 fn heat_missing(c: Case) -> bool
-    ensures { result ≡ heatMissing c }
+    ensures { result ≡ heat_missing c }
 {
     guidance::heat_of(c) == 0
 }
 
 // Tests 3 to 5.
 pub fn check_values(c: Case) -> Checked
-    ensures { result ≡ valuesChecked c }
+    ensures { result ≡ values_checked c }
 {
     if is_outside(0, 75, c.substance) {
         return Checked::Unsound(Fault::Substance);
@@ -66,7 +66,7 @@ pub fn check_values(c: Case) -> Checked
 
 // What tests 3 to 5 found stands; then a heat that was given and lost is refused under 5; else test 6 decides.
 pub fn check_heat(s: Checked, lost: bool) -> Checked
-    ensures { result ≡ heatChecked lost s }
+    ensures { result ≡ heat_checked lost s }
 {
     match s {
         Checked::Unsound(f) => Checked::Unsound(f),
@@ -84,7 +84,7 @@ pub fn check_heat(s: Checked, lost: bool) -> Checked
 
 // Tests 3 to 6.
 pub fn check(c: Case) -> Checked
-    ensures { result ≡ caseChecked c }
+    ensures { result ≡ case_checked c }
 {
     let s = check_values(c);
     check_heat(s, false)

@@ -5,21 +5,21 @@ use mathlib.Core.List.{List}
 use Rattle.exact.specs.Formula.{Formula}
 use Rattle.guidance.specs.declared.Case.{Case}
 use Rattle.guidance.specs.Cases as cases
-use Rattle.guidance.specs.AirPressure.{airOf}
+use Rattle.guidance.specs.AirPressure.{air_of}
 use Rattle.layout.specs.declared.Ends.{Ends}
 use Rattle.frame.specs.declared.Verdict.{Verdict}
 use Rattle.frame.specs.declared.Verdict.TheVariants.{Accepted, Refused}
 use Rattle.frame.specs.declared.Refusal.{Refusal}
 use Rattle.frame.specs.Refusals.{number, code}
-use Rattle.frame.specs.Verdicts.{answerLength, frameVerdict}
-use Rattle.frame.specs.laws.Verdicts.{frame-accepted}
+use Rattle.frame.specs.Verdicts.{answer_length, frame_verdict}
+use Rattle.frame.specs.laws.Verdicts.{frame_accepted}
 use Rattle.blast.specs.WaveEnds.{WaveEnds}
 use Rattle.linked.specs.Codes.{Given, FigureAnswered}
 
-module _ (frame : List ℕ) {v : Verdict} (decided : v ≡ frameVerdict frame answerLength) where
+module _ (frame : List ℕ) {v : Verdict} (decided : v ≡ frame_verdict frame answer_length) where
   module _ {c : Case} (accepts : v ≡ Accepted c) where
-    pub taken : cases.Accepted (airOf c) c
-    taken = (frame-accepted frame c answerLength (sym decided ∙ accepts)).taken.accepted
+    pub taken : cases.Accepted (air_of c) c
+    taken = (frame_accepted frame c answer_length (sym decided ∙ accepts)).taken.accepted
 
     pub given : {x : Case → Formula} {lower upper : ℕ} {e : Ends} → WaveEnds (x c) e → FigureAnswered x frame lower upper 0 e.lower e.upper
     given {x} {lower} {upper} {e} ended =

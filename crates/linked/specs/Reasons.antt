@@ -8,11 +8,11 @@ use Rattle.rules.specs.Rules.{FromFrame}
 use Rattle.linked.specs.Codes.{Left}
 
 -- 0 and the numbers of both rules, or a refusal's number and both numbers as they were
-abbrev pub Given : (a : Answer) (pressure impulse n pressure-after impulse-after : ℕ) → Type 0
-Given (Named r) pressure impulse n pressure-after impulse-after = Left 0 (number r.pressure) (number r.impulse) n pressure-after impulse-after
-Given (Refused q) pressure impulse n pressure-after impulse-after = Left (refusals.number q) pressure impulse n pressure-after impulse-after
+abbrev pub Given : (a : Answer) (pressure impulse n pressure_after impulse_after : ℕ) → Type 0
+Given (Named r) pressure impulse n pressure_after impulse_after = Left 0 (number r.pressure) (number r.impulse) n pressure_after impulse_after
+Given (Refused q) pressure impulse n pressure_after impulse_after = Left (refusals.number q) pressure impulse n pressure_after impulse_after
 
-pub record Reasoned (frame : List ℕ) (pressure impulse n pressure-after impulse-after : ℕ) : Type 0 where
+pub record Reasoned (frame : List ℕ) (pressure impulse n pressure_after impulse_after : ℕ) : Type 0 where
   pub answer : Answer
   pub fits : FromFrame frame answer
-  pub given : Given answer pressure impulse n pressure-after impulse-after
+  pub given : Given answer pressure impulse n pressure_after impulse_after

@@ -6,11 +6,11 @@ use Rattle.ring.specs.Refusals as refusals
 use Rattle.linked.specs.Codes.{Left}
 
 -- 0 and a ring's distances, or a refusal's number and both numbers as they were
-abbrev pub Given : (a : Answer) (inner outer n inner-after outer-after : ℕ) → Type 0
-Given (Ring i o) inner outer n inner-after outer-after = Left 0 i o n inner-after outer-after
-Given (Refused r) inner outer n inner-after outer-after = Left (refusals.number r) inner outer n inner-after outer-after
+abbrev pub Given : (a : Answer) (inner outer n inner_after outer_after : ℕ) → Type 0
+Given (Ring i o) inner outer n inner_after outer_after = Left 0 i o n inner_after outer_after
+Given (Refused r) inner outer n inner_after outer_after = Left (refusals.number r) inner outer n inner_after outer_after
 
-pub record Answered (Fits : Answer → Type 0) (inner outer n inner-after outer-after : ℕ) : Type 0 where
+pub record Answered (Fits : Answer → Type 0) (inner outer n inner_after outer_after : ℕ) : Type 0 where
   pub answer : Answer
   pub fits : Fits answer
-  pub given : Given answer inner outer n inner-after outer-after
+  pub given : Given answer inner outer n inner_after outer_after

@@ -3,15 +3,15 @@ use Rattle.std.specs.Prelude.{ℕ, ◌≡◌, List}
 use Rattle.guidance.specs.declared.Case.{Case}
 use Rattle.writable.specs.declared.Verdict.{Verdict}
 use Rattle.writable.specs.Refusals.{code}
-use Rattle.writable.specs.Writing.{withText}
+use Rattle.writable.specs.Writing.{with_text}
 
 pub record WroteCase (text : Case → List ℕ) (due : Verdict) (before : List ℕ) (n : ℕ) (after : List ℕ) : Type 0 where
   pub returned : n ≡ code due
-  pub area : after ≡ withText text due before
+  pub area : after ≡ with_text text due before
 
 -- a case of eleven numbers, in the order of the frame
-abbrev pub ofNumbers : (substance state placement surroundings mass mean stoichiometric heat distance body air : ℕ) → Case
-ofNumbers substance state placement surroundings mass mean stoichiometric heat distance body air =
+abbrev pub of_numbers : (substance state placement surroundings mass mean stoichiometric heat distance body air : ℕ) → Case
+of_numbers substance state placement surroundings mass mean stoichiometric heat distance body air =
     record {
       substance = substance;
       state = state;

@@ -1,10 +1,10 @@
 // The entries for C and other languages: answers into a lent area, single figures, rings, rules, the old form's lines, frames and spellings that are written, a study sheet, and its cases stored by column.
 ghost use Rattle.std.specs.Prelude.{length};
-ghost use Rattle.frame.specs.Verdicts.{frameVerdict, lineVerdict};
+ghost use Rattle.frame.specs.Verdicts.{frame_verdict, line_verdict};
 ghost use Rattle.linked.specs.Codes.{Entered, FigureAnswered};
-ghost use Rattle.linked.specs.Figures.{ownOverpressure, ownImpulse, figureOf};
+ghost use Rattle.linked.specs.Figures.{own_overpressure, own_impulse, figure_of};
 ghost use Rattle.blast.specs.WaveEnds.{WaveEnds};
-ghost use Rattle.guidance.specs.AirPressure.{airOf};
+ghost use Rattle.guidance.specs.AirPressure.{air_of};
 ghost use Rattle.guidance.specs.Cases.{Accepted};
 
 use frame::Verdict;
@@ -20,7 +20,7 @@ pub mod writings;
 // A case given as a frame's bytes.
 #[unsafe(no_mangle)]
 pub extern "C" fn yakepuhi_from_frame(frame: &[u8], area: &mut [u8]) -> u64
-    ensures { Entered (frameVerdict frame.now (length area.old)) result area.old area.new }
+    ensures { Entered (frame_verdict frame.now (length area.old)) result area.old area.new }
 {
     let v = answer::from_frame(frame, area);
     frame::code_of(v)
@@ -29,7 +29,7 @@ pub extern "C" fn yakepuhi_from_frame(frame: &[u8], area: &mut [u8]) -> u64
 // A case given as a line of hexadecimal digits.
 #[unsafe(no_mangle)]
 pub extern "C" fn yakepuhi_from_line(line: &[u8], area: &mut [u8]) -> u64
-    ensures { Entered (lineVerdict line.now (length area.old)) result area.old area.new }
+    ensures { Entered (line_verdict line.now (length area.old)) result area.old area.new }
 {
     let v = answer::from_line(line, area);
     frame::code_of(v)
@@ -44,8 +44,8 @@ enum Figure {
 
 // The two ends of a figure of an accepted case, without the work of the other figure.
 fn ends_of(figure: Figure, c: Case) -> Ends
-    requires { Accepted (airOf c) c }
-    ensures { WaveEnds (figureOf figure c) result }
+    requires { Accepted (air_of c) c }
+    ensures { WaveEnds (figure_of figure c) result }
 {
     let air = guidance::air_of(c);
     match figure {
@@ -56,7 +56,7 @@ fn ends_of(figure: Figure, c: Case) -> Ends
 
 // One figure of a case, without the work of the other and of the probits.
 fn figure_alone(frame: &[u8], figure: Figure, lower: &mut u64, upper: &mut u64) -> u64
-    ensures { FigureAnswered (figureOf figure) frame.now lower.old upper.old result lower.new upper.new }
+    ensures { FigureAnswered (figure_of figure) frame.now lower.old upper.old result lower.new upper.new }
 {
     let v = frame::decide_frame(frame, frame::ANSWER);
     match v {
@@ -73,7 +73,7 @@ fn figure_alone(frame: &[u8], figure: Figure, lower: &mut u64, upper: &mut u64) 
 // The overpressure alone, in whole pascals.
 #[unsafe(no_mangle)]
 pub extern "C" fn yakepuhi_overpressure(frame: &[u8], lower: &mut u64, upper: &mut u64) -> u64
-    ensures { FigureAnswered ownOverpressure frame.now lower.old upper.old result lower.new upper.new }
+    ensures { FigureAnswered own_overpressure frame.now lower.old upper.old result lower.new upper.new }
 {
     figure_alone(frame, Figure::Overpressure, lower, upper)
 }
@@ -81,7 +81,7 @@ pub extern "C" fn yakepuhi_overpressure(frame: &[u8], lower: &mut u64, upper: &m
 // The impulse alone, in whole pascal-seconds.
 #[unsafe(no_mangle)]
 pub extern "C" fn yakepuhi_impulse(frame: &[u8], lower: &mut u64, upper: &mut u64) -> u64
-    ensures { FigureAnswered ownImpulse frame.now lower.old upper.old result lower.new upper.new }
+    ensures { FigureAnswered own_impulse frame.now lower.old upper.old result lower.new upper.new }
 {
     figure_alone(frame, Figure::Impulse, lower, upper)
 }

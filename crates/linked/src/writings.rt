@@ -1,9 +1,9 @@
 // Frames from fields, and the one spelling of a case, for C and other languages.
 ghost use Rattle.std.specs.Prelude.{length};
-ghost use Rattle.fields.specs.Bytes.{frameBytes};
+ghost use Rattle.fields.specs.Bytes.{frame_bytes};
 ghost use Rattle.writing.specs.Spelling.{spelling};
-ghost use Rattle.writing.specs.Entries.{fieldsVerdict, frameVerdict, lineVerdict};
-ghost use Rattle.linked.specs.Writings.{WroteCase, ofNumbers};
+ghost use Rattle.writing.specs.Entries.{fields_verdict, frame_verdict, line_verdict};
+ghost use Rattle.linked.specs.Writings.{WroteCase, of_numbers};
 
 use guidance::Case;
 
@@ -23,7 +23,7 @@ pub extern "C" fn yakepuhi_frame_from_fields(
     air: u64,
     area: &mut [u8],
 ) -> u64
-    ensures { WroteCase frameBytes (fieldsVerdict (ofNumbers substance state placement surroundings mass mean stoichiometric heat distance body air) (length area.old)) area.old result area.new }
+    ensures { WroteCase frame_bytes (fields_verdict (of_numbers substance state placement surroundings mass mean stoichiometric heat distance body air) (length area.old)) area.old result area.new }
 {
     let c = Case {
         substance,
@@ -44,7 +44,7 @@ pub extern "C" fn yakepuhi_frame_from_fields(
 // The spelling of a case given as a frame's bytes.
 #[unsafe(no_mangle)]
 pub extern "C" fn yakepuhi_spell_frame(frame: &[u8], area: &mut [u8]) -> u64
-    ensures { WroteCase spelling (frameVerdict frame.now (length area.old)) area.old result area.new }
+    ensures { WroteCase spelling (frame_verdict frame.now (length area.old)) area.old result area.new }
 {
     writable::code_of(writing::spell_frame(frame, area))
 }
@@ -52,7 +52,7 @@ pub extern "C" fn yakepuhi_spell_frame(frame: &[u8], area: &mut [u8]) -> u64
 // The spelling of a case given as a line.
 #[unsafe(no_mangle)]
 pub extern "C" fn yakepuhi_spell_line(line: &[u8], area: &mut [u8]) -> u64
-    ensures { WroteCase spelling (lineVerdict line.now (length area.old)) area.old result area.new }
+    ensures { WroteCase spelling (line_verdict line.now (length area.old)) area.old result area.new }
 {
     writable::code_of(writing::spell_line(line, area))
 }

@@ -2,7 +2,7 @@
 use Rattle.std.specs.Prelude.{ℕ, Bool, not, ◌||◌, List, ◌++◌, eqb, Float}
 use Rattle.std.specs.Float.{binary64}
 use Rattle.std.specs.Float.Ieee.{of_bits, to_bits}
-use Rattle.bytes.specs.Numbers.{one_at, eightAt, one, eight}
+use Rattle.bytes.specs.Numbers.{one_at, eight_at, one, eight}
 use Rattle.fields.specs.Bytes.{settings}
 use Rattle.old_case.specs.declared.OldField.{OldField}
 use Rattle.old_case.specs.declared.OldField.TheVariants.{MassKg, MeanG, StoichiometricG, HeatMj, DistanceM, BodyKg}
@@ -17,12 +17,12 @@ tag_of (HeatMj x) = 4
 tag_of (DistanceM x) = 5
 tag_of (BodyKg x) = 6
 
-unfoldable pub fieldBytes : OldField → List ℕ
-fieldBytes f = one (tag_of f) ++ eight (to_bits binary64 (value_of f))
+unfoldable pub field_bytes : OldField → List ℕ
+field_bytes f = one (tag_of f) ++ eight (to_bits binary64 (value_of f))
 
 -- the double in the eight bytes from a place on
-abbrev pub doubleAt : List ℕ → ℕ → Float
-doubleAt s at = of_bits binary64 (eightAt s at)
+abbrev pub double_at : List ℕ → ℕ → Float
+double_at s at = of_bits binary64 (eight_at s at)
 
 -- what 58 bytes hold
 unfoldable pub old_of : List ℕ → OldCase
@@ -32,23 +32,23 @@ old_of s =
       state = one_at s 1;
       placement = one_at s 2;
       surroundings = one_at s 3;
-      mass = doubleAt s 5;
-      mean = doubleAt s 14;
-      stoichiometric = doubleAt s 23;
-      heat = doubleAt s 32;
-      distance = doubleAt s 41;
-      body = doubleAt s 50;
+      mass = double_at s 5;
+      mean = double_at s 14;
+      stoichiometric = double_at s 23;
+      heat = double_at s 32;
+      distance = double_at s 41;
+      body = double_at s 50;
     }
 
-unfoldable pub oldBytes : OldCase → List ℕ
-oldBytes o =
+unfoldable pub old_bytes : OldCase → List ℕ
+old_bytes o =
     settings o.substance o.state o.placement o.surroundings
-    ++ fieldBytes (MassKg o.mass)
-    ++ fieldBytes (MeanG o.mean)
-    ++ fieldBytes (StoichiometricG o.stoichiometric)
-    ++ fieldBytes (HeatMj o.heat)
-    ++ fieldBytes (DistanceM o.distance)
-    ++ fieldBytes (BodyKg o.body)
+    ++ field_bytes (MassKg o.mass)
+    ++ field_bytes (MeanG o.mean)
+    ++ field_bytes (StoichiometricG o.stoichiometric)
+    ++ field_bytes (HeatMj o.heat)
+    ++ field_bytes (DistanceM o.distance)
+    ++ field_bytes (BodyKg o.body)
 
 -- test 15: one of the six tags is not its field's
 unfoldable pub misplaced : List ℕ → Bool

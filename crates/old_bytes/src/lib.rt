@@ -4,14 +4,14 @@ ghost use Rattle.std.proofs.lemmas.List.Edits.{sets};
 ghost use Rattle.bytes.specs.Storing.{Stored};
 ghost use Rattle.doubles.specs.Doubles.{unusable};
 ghost use Rattle.old_case.specs.Fields.{value_of};
-ghost use Rattle.old_case.specs.Cases.{unusableIn};
-ghost use Rattle.old_bytes.specs.Bytes.{doubleAt, old_of, misplaced, tag_of, fieldBytes, oldBytes};
+ghost use Rattle.old_case.specs.Cases.{unusable_in};
+ghost use Rattle.old_bytes.specs.Bytes.{double_at, old_of, misplaced, tag_of, field_bytes, old_bytes};
 
 use old_case::{OldCase, OldField};
 
 fn double_at(s: &[u8], at: usize) -> f64
     requires { at + 8 ≤ length s.now }
-    ensures { result ≡ doubleAt s.now at }
+    ensures { result ≡ double_at s.now at }
 {
     doubles::of_bits(bytes::eight_at(s, at))
 }
@@ -78,7 +78,7 @@ fn value_of(f: OldField) -> f64
 // A field's nine bytes, from a place on: its tag and its double.
 fn put_field(s: &mut [u8], at: usize, f: OldField)
     requires { (at + 9 ≤ length s.old) × (unusable (value_of f) ≡ false) }
-    ensures { Stored s.old at (fieldBytes f) s.new }
+    ensures { Stored s.old at (field_bytes f) s.new }
 {
     let tag = tag_of(f);
     let bits = f64::to_bits(value_of(f));
@@ -88,8 +88,8 @@ fn put_field(s: &mut [u8], at: usize, f: OldField)
 
 // The 58 bytes of an old case, into the first bytes of s.
 pub fn write(s: &mut [u8], o: OldCase)
-    requires { (58 ≤ length s.old) × (unusableIn o ≡ false) }
-    ensures { s.new ≡ sets s.old 0 (oldBytes o) }
+    requires { (58 ≤ length s.old) × (unusable_in o ≡ false) }
+    ensures { s.new ≡ sets s.old 0 (old_bytes o) }
 {
     fields::write_settings(s, o.substance, o.state, o.placement, o.surroundings);
     put_field(s, 4, OldField::MassKg(o.mass));

@@ -9,8 +9,8 @@ use Rattle.old_case.specs.declared.OldCase.{OldCase}
 use Rattle.old_case.specs.Fields.{whole_of}
 
 -- test 16: an unusable double in any field
-unfoldable pub unusableIn : OldCase → Bool
-unusableIn o =
+unfoldable pub unusable_in : OldCase → Bool
+unusable_in o =
     unusable o.mass
     || unusable o.mean
     || unusable o.stoichiometric
@@ -36,12 +36,12 @@ case_of o =
     }
 
 -- a positive heat whose whole number is 0
-unfoldable pub lostHeat : OldCase → Bool
-lostHeat o = lt (whole 0) o.heat && eqb (whole_of (HeatMj o.heat)) 0
+unfoldable pub lost_heat : OldCase → Bool
+lost_heat o = lt (whole 0) o.heat && eqb (whole_of (HeatMj o.heat)) 0
 
 -- the way back: each double is the nearest to its fraction
-unfoldable pub oldCaseOf : Case → OldCase
-oldCaseOf c =
+unfoldable pub old_case_of : Case → OldCase
+old_case_of c =
     record {
       substance = c.substance;
       state = c.state;

@@ -3,7 +3,7 @@ ghost use Rattle.std.specs.Prelude.{◌≡◌, false};
 ghost use Rattle.guidance.specs.Cases.{Fields};
 ghost use Rattle.doubles.specs.Doubles.{unusable};
 ghost use Rattle.old_case.specs.Fields.{value_of, whole_of};
-ghost use Rattle.old_case.specs.Cases.{unusableIn, case_of, lostHeat, oldCaseOf};
+ghost use Rattle.old_case.specs.Cases.{unusable_in, case_of, lost_heat, old_case_of};
 
 use guidance::Case;
 
@@ -52,7 +52,7 @@ pub struct OldCase {
 
 // Test 16: one of the six doubles is unusable.
 pub fn is_unusable(o: OldCase) -> bool
-    ensures { result ≡ unusableIn o }
+    ensures { result ≡ unusable_in o }
 {
     let mass = doubles::is_unusable(o.mass);
     let mean = doubles::is_unusable(o.mean);
@@ -80,7 +80,7 @@ fn whole_of(f: OldField) -> u64
 
 // The case of whole numbers, which need not fit a frame's fields, in the standard air.
 pub fn case_of(o: OldCase) -> Case
-    requires { unusableIn o ≡ false }
+    requires { unusable_in o ≡ false }
     ensures { result ≡ case_of o }
 {
     Case {
@@ -100,8 +100,8 @@ pub fn case_of(o: OldCase) -> Case
 
 // Whether a heat above zero became 0.
 pub fn is_heat_lost(o: OldCase) -> bool
-    requires { unusableIn o ≡ false }
-    ensures { result ≡ lostHeat o }
+    requires { unusable_in o ≡ false }
+    ensures { result ≡ lost_heat o }
 {
     if 0.0 < o.heat {
         return whole_of(OldField::HeatMj(o.heat)) == 0;
@@ -112,7 +112,7 @@ pub fn is_heat_lost(o: OldCase) -> bool
 // The old case of a case: each double is the nearest to its fraction.
 pub fn of_case(c: Case) -> OldCase
     requires { Fields c }
-    ensures { result ≡ oldCaseOf c }
+    ensures { result ≡ old_case_of c }
 {
     OldCase {
         substance: c.substance,

@@ -8,12 +8,12 @@ use Rattle.places.specs.declared.Place.{Place}
 use Rattle.places.specs.declared.Places.{Places}
 use Rattle.places.specs.Holes.{trim}
 
-abbrev pub contentOf : Content → Option Held
-contentOf Hole = none
-contentOf (Taken h) = some h
+abbrev pub content_of : Content → Option Held
+content_of Hole = none
+content_of (Taken h) = some h
 
 abbrev pub holds : Place → Option Held
-holds p = contentOf p.content
+holds p = content_of p.content
 
 -- what each of the 64 places holds
 abbrev pub contents : Places → List (Option Held)

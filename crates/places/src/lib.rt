@@ -1,7 +1,7 @@
 // 64 places, each a case or none, by value.
 ghost use Rattle.std.specs.Prelude.{◌≡◌, [], ◌-◌, ◌≤◌, length, set};
 ghost use Rattle.places.specs.Holes.{vacant, at, closed};
-ghost use Rattle.places.specs.Places.{contentOf, holds, stands_for};
+ghost use Rattle.places.specs.Places.{content_of, holds, stands_for};
 
 use guidance::Case;
 
@@ -68,7 +68,7 @@ impl Places {
 
     // What a place holds; nothing outside places 1 to 64.
     pub fn content_at(self, k: usize) -> Content
-        ensures { contentOf result ≡ at (stands_for self) k }
+        ensures { content_of result ≡ at (stands_for self) k }
     {
         if k == 0 {
             return Content::Hole;

@@ -11,7 +11,7 @@ use Rattle.fixed.specs.Millis.{millis}
 use Rattle.enclosure.specs.Promises.{enough}
 use Rattle.guidance.specs.Cases.{Air}
 use Rattle.layout.specs.declared.Probits.{Probits}
-use Rattle.guidance.specs.Probits.{probit1At, probit2At, probit3At, probit4At, probit5At}
+use Rattle.guidance.specs.Probits.{probit1_at, probit2_at, probit3_at, probit4_at, probit5_at}
 
 -- an overpressure from 2^-14 up to 2^31 Pa, within 2^-19 of itself
 pub record Pressure (s : Span) : Type 0 where
@@ -41,10 +41,10 @@ pub record Resisting (air body : ℕ) : Type 0 where
 pub record Thousandth (l u : ℤ) : Type 0 where
   pub ordered : up l + dn u ≤ up u + dn l
   pub narrow : up u + dn l ≤ up l + dn u + 2
-  pub lower-up : up l < 2 ^ 31
-  pub lower-dn : dn l < 2 ^ 31
-  pub upper-up : up u < 2 ^ 31
-  pub upper-dn : dn u < 2 ^ 31
+  pub lower_up : up l < 2 ^ 31
+  pub lower_dn : dn l < 2 ^ 31
+  pub upper_up : up u < 2 ^ 31
+  pub upper_dn : dn u < 2 ^ 31
 
 -- of a formula f of the overpressure and the impulse: whatever formulas the two spans enclose
 pub record ProbitOf (f : Formula → Formula → Formula) (p i : Span) (l u : ℤ) : Type 0 where
@@ -52,19 +52,19 @@ pub record ProbitOf (f : Formula → Formula → Formula) (p i : Span) (l u : �
   pub closed : Thousandth l u
 
 abbrev pub Probit1 : Span → Span → ℤ → ℤ → Type 0
-Probit1 = ProbitOf probit1At
+Probit1 = ProbitOf probit1_at
 
 abbrev pub Probit2 : Span → Span → ℤ → ℤ → Type 0
-Probit2 = ProbitOf probit2At
+Probit2 = ProbitOf probit2_at
 
 abbrev pub Probit3 : Span → Span → (air body : ℕ) → ℤ → ℤ → Type 0
-Probit3 p i air body = ProbitOf (probit3At air body) p i
+Probit3 p i air body = ProbitOf (probit3_at air body) p i
 
 abbrev pub Probit5 : Span → Span → ℤ → ℤ → Type 0
-Probit5 = ProbitOf probit5At
+Probit5 = ProbitOf probit5_at
 
 pub record Probit4 (p : Span) (l u : ℤ) : Type 0 where
-  pub holds : (x : Formula) (n : ℕ) → enough ≤ n → Encloses p x n → Holds (millis l u) (probit4At x)
+  pub holds : (x : Formula) (n : ℕ) → enough ≤ n → Encloses p x n → Holds (millis l u) (probit4_at x)
   pub closed : Thousandth l u
 
 -- the five together

@@ -21,10 +21,10 @@ moved c d =
     }
 
 -- the greatest distance up to `most` at which Rx is not greater than 24; 0 if there is none
-unfoldable pub lastWithin : (air : ℕ) → Case → (most : ℕ) → ℕ
-lastWithin air c zero = zero
-lastWithin air c (suc d) = cond (farther cube24 air (moved c (suc d))) (lastWithin air c d) (suc d)
+unfoldable pub last_within : (air : ℕ) → Case → (most : ℕ) → ℕ
+last_within air c zero = zero
+last_within air c (suc d) = cond (farther cube24 air (moved c (suc d))) (last_within air c d) (suc d)
 
 -- the last accepted distance, by Rx and by 1,000,000 cm
 abbrev pub farthest : (air : ℕ) → Case → ℕ
-farthest air c = lastWithin air c 1000000
+farthest air c = last_within air c 1000000

@@ -11,17 +11,17 @@ use Rattle.text.specs.declared.Stream.{Stream}
 use Rattle.text.specs.Streams.{Sound, Stands}
 use Rattle.text.specs.Promises.{Ready}
 use Rattle.reckon.specs.Passing.{Past}
-use Rattle.reckon.specs.Reading.{budget, readMost, After}
+use Rattle.reckon.specs.Reading.{budget, read_most, After}
 use Rattle.reckon.specs.Passing.{Buffers}
 use Rattle.reckon.specs.Reading.After.{none, more}
 
-after-sound : {reads : ℕ} {input : List ℕ} {s : Stream} → After reads input s → Sound s
-after-sound (none st) = st.sound
-after-sound (more so_far some most reached) = reached.sound
+after_sound : {reads : ℕ} {input : List ℕ} {s : Stream} → After reads input s → Sound s
+after_sound (none st) = st.sound
+after_sound (more so_far some most reached) = reached.sound
 
-after-lines : {reads : ℕ} {input : List ℕ} {s : Stream} → After reads input s → s.lines ≤ reads * readMost
-after-lines (none st) = omega (arith, st.counted)
-after-lines (more so_far some most reached) = omega (arith, after-lines so_far, reached.lines, most)
+after_lines : {reads : ℕ} {input : List ℕ} {s : Stream} → After reads input s → s.lines ≤ reads * read_most
+after_lines (none st) = omega (arith, st.counted)
+after_lines (more so_far some most reached) = omega (arith, after_lines so_far, reached.lines, most)
 
 pub record Running (input₀ out₀ input out : List ℕ) (stream : Stream) (reads : ℕ) : Type 0 where
   pub inputs : length input ≡ length input₀
@@ -30,29 +30,29 @@ pub record Running (input₀ out₀ input out : List ℕ) (stream : Stream) (rea
   pub bytes : List ℕ
   pub after : After reads bytes stream
 
-pub run-first : {stream : Stream} (input out : List ℕ) → Stands stream 0 [] → Running input out input out stream 0
-run-first input out st = record { inputs = refl; outs = refl; few = omega arith; bytes = []; after = none st }
+pub run_first : {stream : Stream} (input out : List ℕ) → Stands stream 0 [] → Running input out input out stream 0
+run_first input out st = record { inputs = refl; outs = refl; few = omega arith; bytes = []; after = none st }
 
 module _
     {input₀ out₀ input out : List ℕ} {stream : Stream} {reads : ℕ}
     (buffers : Buffers input₀ out₀)
     (so_far : Running input₀ out₀ input out stream reads) where
-  pub run-buffers : Buffers input out
-  run-buffers =
+  pub run_buffers : Buffers input out
+  run_buffers =
       record {
         most = omega (arith, buffers.most, so_far.inputs);
         room = omega (arith, buffers.room, so_far.outs);
       }
 
-  pub run-ready : reads < budget → Ready stream readMost out
-  run-ready h =
+  pub run_ready : reads < budget → Ready stream read_most out
+  run_ready h =
       record {
-        sound = after-sound so_far.after;
-        numbers = omega (arith, after-lines so_far.after, h);
-        room = run-buffers.room;
+        sound = after_sound so_far.after;
+        numbers = omega (arith, after_lines so_far.after, h);
+        room = run_buffers.room;
       }
 
-  pub run-again
+  pub run_again
       : {read after : List ℕ} {used : ℕ} {next : Stream} →
       reads < budget →
       length read ≡ length input →
@@ -60,10 +60,10 @@ module _
       Past stream read used next →
       (used ≡ 0 → ⊥) →
       Running input₀ out₀ read after next (reads + 1)
-  run-again {read} {used = used} h same-input same_out past some =
+  run_again {read} {used = used} h same_input same_out past some =
       let size = length-take-le used read past.within in
       record {
-        inputs = omega (arith, same-input, so_far.inputs);
+        inputs = omega (arith, same_input, so_far.inputs);
         outs = omega (arith, same_out, so_far.outs);
         few = omega (arith, h);
         bytes = so_far.bytes ++ take used read;
@@ -73,6 +73,6 @@ module _
             {part = take used read}
             so_far.after
             (rw size (pos_of_ne-zero some))
-            (omega (arith, size, past.within, same-input, run-buffers.most))
+            (omega (arith, size, past.within, same_input, run_buffers.most))
             past.reached);
       }

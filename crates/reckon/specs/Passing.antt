@@ -3,7 +3,7 @@ use Rattle.std.specs.Prelude.{ℕ, ◌≤◌, ◌<◌, ◌≡◌, true, List, le
 use Rattle.text.specs.declared.Stream.{Stream}
 use Rattle.text.specs.Streams.{Reached}
 use Rattle.text.specs.Records.{longest}
-use Rattle.reckon.specs.Reading.{readMost}
+use Rattle.reckon.specs.Reading.{read_most}
 use Rattle.reckon.specs.declared.Passed.{Passed}
 
 -- t is s after the first `used` of these bytes
@@ -23,5 +23,5 @@ pub record Passes (s : Stream) (part : List ℕ) (r : Passed) : Type 0 where
 
 -- reads of at most 64 KiB, and room for a record
 pub record Buffers (input out : List ℕ) : Type 0 where
-  pub most : length input ≤ readMost
+  pub most : length input ≤ read_most
   pub room : longest ≤ length out

@@ -10,8 +10,8 @@ abbrev pub budget : ℕ
 budget = 2 ^ 47
 
 -- the most bytes that a read brings
-abbrev pub readMost : ℕ
-readMost = 65536
+abbrev pub read_most : ℕ
+read_most = 65536
 
 -- so many reads have brought bytes, and the stream is past the bytes of all of them, in their order
 pub data After : (reads : ℕ) (input : List ℕ) (s : Stream) → Type 0 where
@@ -20,7 +20,7 @@ pub data After : (reads : ℕ) (input : List ℕ) (s : Stream) → Type 0 where
       : {reads : ℕ} {input part : List ℕ} {s t : Stream} →
       After reads input s →
       0 < length part →
-      length part ≤ readMost →
+      length part ≤ read_most →
       Reached s part t →
       After (suc reads) (input ++ part) t
 
@@ -28,4 +28,4 @@ pub data After : (reads : ℕ) (input : List ℕ) (s : Stream) → Type 0 where
 pub record Runs (r : Ran) : Type 0 where
   pub input : List ℕ
   pub after : After r.reads input r.stream
-  pub used-up : r.end ≡ Budget → r.reads ≡ budget
+  pub used_up : r.end ≡ Budget → r.reads ≡ budget

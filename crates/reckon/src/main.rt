@@ -3,7 +3,7 @@ ghost use Rattle.std.specs.Prelude.{length};
 ghost use Rattle.text.specs.Streams.{Tells, TellsLast};
 ghost use Rattle.text.specs.Promises.{Ready};
 ghost use Rattle.reckon.specs.Passing.{Past, Relays, Passes, Buffers};
-ghost use Rattle.reckon.specs.Reading.{readMost, Runs};
+ghost use Rattle.reckon.specs.Reading.{read_most, Runs};
 
 use libc::{STDIN_FILENO, STDOUT_FILENO};
 use text::Stream;
@@ -104,7 +104,7 @@ fn last(s: Stream, out: &mut [u8]) -> bool
 // One read, and all that comes of it. No byte is used where the input has ended.
 fn turn(s: Stream, input: &mut [u8], out: &mut [u8]) -> Passed
     requires buffers { Buffers input.old out.old }
-    requires ready { Ready s readMost out.old }
+    requires ready { Ready s read_most out.old }
     ensures { Past s input.new result.used result.stream }
 {
     let got = libc::read(STDIN_FILENO, input);

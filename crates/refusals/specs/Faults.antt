@@ -25,8 +25,8 @@ word Quantity = 113 ∷ 117 ∷ 97 ∷ 110 ∷ 116 ∷ 105 ∷ 116 ∷ 121 ∷ [
 word Heat = 104 ∷ 101 ∷ 97 ∷ 116 ∷ []
 
 -- a word filled with zeros to n bytes, and to 12
-abbrev pub filledTo : ℕ → List ℕ → List ℕ
-filledTo n w = w ++ replicate (n - length w) 0
+abbrev pub filled_to : ℕ → List ℕ → List ℕ
+filled_to n w = w ++ replicate (n - length w) 0
 
 abbrev pub filled : List ℕ → List ℕ
-filled w = filledTo 12 w
+filled w = filled_to 12 w

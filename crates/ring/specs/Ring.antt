@@ -4,14 +4,14 @@
 use Rattle.std.specs.Prelude.{ℕ, ◌+◌, ◌*◌, ◌-◌, ◌≤◌, ◌<◌, ◌≡◌, List, [], ◌∷◌, ◌++◌}
 use Rattle.std.proofs.Math.Option.{Option, none, some}
 use Rattle.guidance.specs.declared.Case.{Case}
-use Rattle.guidance.specs.AirPressure.{airOf}
+use Rattle.guidance.specs.AirPressure.{air_of}
 use Rattle.guidance.specs.Waves.{overpressure}
 use Rattle.hexadecimals.specs.Digits.{bytes_of}
 use Rattle.refusals.specs.declared.Fault.{Fault}
 use Rattle.refusals.specs.Order.{Test, ◌when◌, first_of, held}
 use Rattle.fields.specs.Bytes.{fields_of}
 use Rattle.limits.specs.Tests.{outside}
-use Rattle.frame.specs.Tests.{frameTests, lineTests}
+use Rattle.frame.specs.Tests.{frame_tests, line_tests}
 use Rattle.layout.specs.declared.Ends.{Ends}
 use Rattle.blast.specs.WaveEnds.{WaveEnds}
 use Rattle.receptor.specs.Receptor.{moved, farthest}
@@ -21,12 +21,12 @@ use Rattle.ring.specs.declared.Answer.{Answer}
 use Rattle.ring.specs.declared.Answer.TheVariants.{Ring, Refused}
 
 -- test 9: a threshold is 1 to 18·P0 Pa by the case's own P0 (request 11), which is 1,823,400 at 101,300
-unfoldable pub lastTests : (air t : ℕ) → List (Test Refusal)
-lastTests air t = (Threshold when outside 1 (18 * air) t) ∷ []
+unfoldable pub last_tests : (air t : ℕ) → List (Test Refusal)
+last_tests air t = (Threshold when outside 1 (18 * air) t) ∷ []
 
 -- tests 1 to 6, then 9
 unfoldable pub tests : List (Test Fault) → (air t : ℕ) → List (Test Refusal)
-tests given air t = held Faulty given ++ lastTests air t
+tests given air t = held Faulty given ++ last_tests air t
 
 -- a choice of ends; the pair chosen at d holds ΔP there
 abbrev pub HoldsAt : (air : ℕ) (c : Case) (ends : ℕ → Ends) (d : ℕ) → Type 0
@@ -55,16 +55,16 @@ pub record IsRing (air : ℕ) (c : Case) (t inner outer : ℕ) : Type 0 where
   pub most : outer ≤ farthest air c
   pub at_first : HoldsAt air c ends 1
   pub at_inner : HoldsAt air c ends inner
-  pub after-inner : HoldsAt air c ends (inner + 1)
-  pub before-outer : HoldsAt air c ends (outer - 1)
-  pub at-outer : HoldsAt air c ends outer
+  pub after_inner : HoldsAt air c ends (inner + 1)
+  pub before_outer : HoldsAt air c ends (outer - 1)
+  pub at_outer : HoldsAt air c ends outer
   pub at_last : HoldsAt air c ends (farthest air c)
-  pub first-reaches : t ≤ (ends 1).lower
-  pub inner-reaches : t ≤ (ends inner).lower
-  pub inner-next : (ends (inner + 1)).lower < t
-  pub outer-previous : t ≤ (ends (outer - 1)).upper
+  pub first_reaches : t ≤ (ends 1).lower
+  pub inner_reaches : t ≤ (ends inner).lower
+  pub inner_next : (ends (inner + 1)).lower < t
+  pub outer_previous : t ≤ (ends (outer - 1)).upper
   pub outer_below : (ends outer).upper < t
-  pub last-below : (ends (farthest air c)).upper < t
+  pub last_below : (ends (farthest air c)).upper < t
 
 -- what fits where none of tests 1 to 6 and 9 applies
 abbrev pub Fits : (air : ℕ) (c : Case) (t : ℕ) → Answer → Type 0
@@ -81,10 +81,10 @@ Answers none air c t answer = Fits air c t answer
 
 -- the entries: a case and its own tests, in its own air
 abbrev pub OwnRing : List (Test Fault) → (c : Case) (t : ℕ) → Answer → Type 0
-OwnRing given c t answer = Answers (first_of (tests given (airOf c) t)) (airOf c) c t answer
+OwnRing given c t answer = Answers (first_of (tests given (air_of c) t)) (air_of c) c t answer
 
 abbrev pub FromFrame : (frame : List ℕ) (t : ℕ) → Answer → Type 0
-FromFrame frame t answer = OwnRing (frameTests frame) (fields_of frame) t answer
+FromFrame frame t answer = OwnRing (frame_tests frame) (fields_of frame) t answer
 
 abbrev pub FromLine : (line : List ℕ) (t : ℕ) → Answer → Type 0
-FromLine line t answer = OwnRing (lineTests line) (fields_of (bytes_of line)) t answer
+FromLine line t answer = OwnRing (line_tests line) (fields_of (bytes_of line)) t answer

@@ -1,7 +1,7 @@
 -- What the steps of the search ask and give one another.
 use Rattle.std.specs.Prelude.{ℕ, ◌+◌, ◌^◌, ◌≤◌, ◌<◌, ◌≡◌, false}
 use Rattle.guidance.specs.declared.Case.{Case}
-use Rattle.guidance.specs.AirPressure.{airOf}
+use Rattle.guidance.specs.AirPressure.{air_of}
 use Rattle.guidance.specs.Cases.{Air}
 use Rattle.guidance.specs.CloudWords.{Heated}
 use Rattle.guidance.specs.Waves.{overpressure}
@@ -19,7 +19,7 @@ use Rattle.ring.specs.declared.Side.TheVariants.{Lower, Upper}
 use Rattle.ring.specs.declared.Refusal.TheVariants.{Faulty}
 use Rattle.ring.specs.declared.Answer.{Answer}
 use Rattle.ring.specs.declared.Answer.TheVariants.{Refused}
-use Rattle.ring.specs.Ring.{lastTests, Answers}
+use Rattle.ring.specs.Ring.{last_tests, Answers}
 
 abbrev pub end_of : Side → Ends → ℕ
 end_of Lower e = e.lower
@@ -61,16 +61,16 @@ pub record Edge (side : Side) (air : ℕ) (c : Case) (t near far r : ℕ) : Type
 -- the threshold is reached at 1 cm and not at the farthest distance
 pub record Crossed (air : ℕ) (c : Case) (t far : ℕ) : Type 0 where
   pub standing : Standing air c far
-  pub is-farthest : far ≡ farthest air c
+  pub is_farthest : far ≡ farthest air c
   pub more : 1 < far
   pub first : Reaches Lower air c t 1
   pub last : Below Upper air c t far
 
 -- test 9, then what fits
 abbrev pub RingFor : (air : ℕ) (c : Case) (t : ℕ) → Answer → Type 0
-RingFor air c t answer = Answers (first_of (lastTests air t)) air c t answer
+RingFor air c t answer = Answers (first_of (last_tests air t)) air c t answer
 
 -- what tests 1 to 6 found stands, else this, in the case's own air
 abbrev pub AnswerTo : Checked → (t : ℕ) → Answer → Type 0
-AnswerTo (Sound c) t answer = RingFor (airOf c) c t answer
+AnswerTo (Sound c) t answer = RingFor (air_of c) c t answer
 AnswerTo (Unsound f) t answer = answer ≡ Refused (Faulty f)

@@ -1,13 +1,13 @@
 // Why a figure is what it is: the rule that gave ΔP and the rule that gave I of an accepted case.
 // The near field and 0.34 are told by the exact tests of `guidance`, the smaller of two figures by intervals that lie apart.
 ghost use Rattle.std.specs.Prelude.{◌≡◌};
-ghost use Rattle.guidance.specs.AirPressure.{airOf};
+ghost use Rattle.guidance.specs.AirPressure.{air_of};
 ghost use Rattle.guidance.specs.Cases.{Accepted};
-ghost use Rattle.refusals.specs.Faults.{filledTo};
+ghost use Rattle.refusals.specs.Faults.{filled_to};
 ghost use Rattle.blast.specs.Promises.{Roundable};
 ghost use Rattle.rules.specs.Words.{number, words};
-ghost use Rattle.rules.specs.Rules.{detonationRule, RulesOf, Answers, FromFrame, FromLine};
-ghost use Rattle.rules.specs.Deciding.{deflagrationRule, Decided, Burning, Acceptable};
+ghost use Rattle.rules.specs.Rules.{detonation_rule, RulesOf, Answers, FromFrame, FromLine};
+ghost use Rattle.rules.specs.Deciding.{deflagration_rule, Decided, Burning, Acceptable};
 
 use frame::{Refusal, Verdict};
 use guidance::{Case, Cloud};
@@ -59,7 +59,7 @@ pub fn number_of(r: Rule) -> u64
 
 // The rule in words, filled with zeros to 28 bytes.
 pub fn words_of(r: Rule) -> [u8; 28]
-    ensures { result ≡ filledTo 28 (words r) }
+    ensures { result ≡ filled_to 28 (words r) }
 {
     match r {
         Rule::NearField => *b"near-field value\0\0\0\0\0\0\0\0\0\0\0\0",
@@ -74,7 +74,7 @@ pub fn words_of(r: Rule) -> [u8; 28]
 }
 
 fn detonation_rule(near: bool) -> Rule
-    ensures { result ≡ detonationRule near }
+    ensures { result ≡ detonation_rule near }
 {
     if near {
         Rule::NearField
@@ -84,7 +84,7 @@ fn detonation_rule(near: bool) -> Rule
 }
 
 fn deflagration_rule(under: bool) -> Rule
-    ensures { result ≡ deflagrationRule under }
+    ensures { result ≡ deflagration_rule under }
 {
     if under {
         Rule::DeflagrationAt034
@@ -127,8 +127,8 @@ fn rules_by_figures(c: Case, k: Cloud, air: u64, near: bool) -> Rules
 }
 
 fn rules_of(c: Case) -> Rules
-    requires { Accepted (airOf c) c }
-    ensures { RulesOf (airOf c) c result }
+    requires { Accepted (air_of c) c }
+    ensures { RulesOf (air_of c) c result }
 {
     let air = guidance::air_of(c);
     let k = guidance::cloud_of(c);

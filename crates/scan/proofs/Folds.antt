@@ -7,12 +7,12 @@ pub record Folded (f : ℕ → ℕ → ℕ) (text : List ℕ) (at value : ℕ) :
   pub within : at ≤ length text
   pub rest : foldl f 0 text ≡ foldl f value (drop at text)
 
-pub fold-first : (f : ℕ → ℕ → ℕ) (text : List ℕ) → Folded f text 0 0
-fold-first f text = record { within = zero-le; rest = refl }
+pub fold_first : (f : ℕ → ℕ → ℕ) (text : List ℕ) → Folded f text 0 0
+fold_first f text = record { within = zero-le; rest = refl }
 
 module _ {f : ℕ → ℕ → ℕ} {text : List ℕ} {at value : ℕ} (c : Folded f text at value) where
-  pub fold-again : {more : ℕ} → at < length text → more ≡ f value (get_or text at 0) → Folded f text (at + 1) more
-  fold-again {more} h m = record { within = omega arith; rest = rw (add-one at, m) (c.rest ∙ ap (foldl f value) (drop-cons text at 0 h)) }
+  pub fold_again : {more : ℕ} → at < length text → more ≡ f value (get_or text at 0) → Folded f text (at + 1) more
+  fold_again {more} h m = record { within = omega arith; rest = rw (add-one at, m) (c.rest ∙ ap (foldl f value) (drop-cons text at 0 h)) }
 
-  pub fold-last : length text ≤ at → value ≡ foldl f 0 text
-  fold-last h = cc (c.rest ∙ ap (foldl f value) (drop_of_length-le text h))
+  pub fold_last : length text ≤ at → value ≡ foldl f 0 text
+  fold_last h = cc (c.rest ∙ ap (foldl f value) (drop_of_length-le text h))

@@ -9,34 +9,34 @@ pub record Sought (text : List ℕ) (from a b at : ℕ) : Type 0 where
   pub between : Between from at (length text)
   pub rest : place_of text from a b ≡ place_of text at a b
 
-pub seek-first : (text : List ℕ) (from a b : ℕ) → from ≤ length text → Sought text from a b from
-seek-first text from a b h = record { between = record { onward = omega arith; within = h }; rest = refl }
+pub seek_first : (text : List ℕ) (from a b : ℕ) → from ≤ length text → Sought text from a b from
+seek_first text from a b h = record { between = record { onward = omega arith; within = h }; rest = refl }
 
 module _ {text : List ℕ} {from a b at : ℕ} (c : Sought text from a b at) where
-  pub seek-a : at < length text → get_or text at 0 ≡ a → at ≡ place_of text from a b
+  pub seek_a : at < length text → get_or text at 0 ≡ a → at ≡ place_of text from a b
   unfolding before place_of
-  seek-a h e =
+  seek_a h e =
       let none : before a b (drop at text) ≡ 0 = ap (before a b) (drop-cons text at 0 h) ∙ simp (eq-eqb _ _ e) in
       omega (arith, c.rest)
 
-  pub seek-b : at < length text → (get_or text at 0 ≡ a → ⊥) → get_or text at 0 ≡ b → at ≡ place_of text from a b
+  pub seek_b : at < length text → (get_or text at 0 ≡ a → ⊥) → get_or text at 0 ≡ b → at ≡ place_of text from a b
   unfolding before place_of
-  seek-b h n e =
+  seek_b h n e =
       let none : before a b (drop at text) ≡ 0 = ap (before a b) (drop-cons text at 0 h) ∙ simp (ne_eqb _ _ n, eq-eqb _ _ e) in
       omega (arith, c.rest)
 
-  pub seek-again : at < length text → (get_or text at 0 ≡ a → ⊥) → (get_or text at 0 ≡ b → ⊥) → Sought text from a b (at + 1)
+  pub seek_again : at < length text → (get_or text at 0 ≡ a → ⊥) → (get_or text at 0 ≡ b → ⊥) → Sought text from a b (at + 1)
   unfolding before place_of
-  seek-again h n m =
+  seek_again h n m =
       let one : before a b (drop at text) ≡ suc (before a b (drop (suc at) text)) = ap (before a b) (drop-cons text at 0 h) ∙ simp (ne_eqb _ _ n, ne_eqb _ _ m) in
       record {
         between = record { onward = omega arith; within = omega arith };
         rest = rw (add-one at) (omega (arith, c.rest, one));
       }
 
-  pub seek-last : length text ≤ at → at ≡ place_of text from a b
+  pub seek_last : length text ≤ at → at ≡ place_of text from a b
   unfolding before place_of
-  seek-last h =
+  seek_last h =
       let none : before a b (drop at text) ≡ 0 = ap (before a b) (drop_of_length-le text h) in
       omega (arith, c.rest)
 
@@ -46,32 +46,32 @@ module _ (value : ℕ) {digit b : ℕ} (e : digit ≡ b) where
   unfolding shifted
   below-zero h = simp (← e, lt-leb 48 digit h)
 
-  pub above-nine : 48 ≤ digit → 57 < digit → value ≡ shifted value b
+  pub above_nine : 48 ≤ digit → 57 < digit → value ≡ shifted value b
   unfolding shifted
-  above-nine h k = simp (← e, le-leb 48 digit h, lt-leb digit 57 k)
+  above_nine h k = simp (← e, le-leb 48 digit h, lt-leb digit 57 k)
 
-  pub one-too-many : 48 ≤ digit → digit ≤ 57 → 1000000000000000000 < value → value ≡ shifted value b
+  pub one_too_many : 48 ≤ digit → digit ≤ 57 → 1000000000000000000 < value → value ≡ shifted value b
   unfolding shifted
-  one-too-many h k l = simp (← e, le-leb 48 digit h, le-leb digit 57 k, lt-leb value 1000000000000000000 l)
+  one_too_many h k l = simp (← e, le-leb 48 digit h, le-leb digit 57 k, lt-leb value 1000000000000000000 l)
 
   pub one_more : 48 ≤ digit → digit ≤ 57 → value ≤ 1000000000000000000 → 10 * value + (digit - 48) ≡ shifted value b
   unfolding shifted
   one_more h k l = simp (← e, le-leb 48 digit h, le-leb digit 57 k, le-leb value 1000000000000000000 l)
 
 module _ (at size : ℕ) where
-  pub past-byte : at < size → at + 1 ≡ past at size
+  pub past_byte : at < size → at + 1 ≡ past at size
   unfolding past
-  past-byte h = simp (lt-ltb _ _ h)
+  past_byte h = simp (lt-ltb _ _ h)
 
-  pub past-none : size ≤ at → at ≡ past at size
+  pub past_none : size ≤ at → at ≡ past at size
   unfolding past
-  past-none h = simp (le-ltb _ _ h)
+  past_none h = simp (le-ltb _ _ h)
 
-pub word-is : (text : List ℕ) (from : ℕ) {end lead value next : ℕ}
+pub word_is : (text : List ℕ) (from : ℕ) {end lead value next : ℕ}
     → end ≡ place_of text from 32 10
     → lead ≡ get_or text from 0
     → value ≡ spelled (take (end - from) (drop from text))
     → next ≡ past end (length text)
     → ◌≡◌ {A = Word} (record { lead = lead; value = value; next = next }) (word_at text from)
 unfolding word_at
-word-is text from e l v n = cc
+word_is text from e l v n = cc

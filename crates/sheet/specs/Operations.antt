@@ -5,11 +5,11 @@ use Rattle.guidance.specs.declared.Case.{Case}
 use Rattle.hexadecimals.specs.Digits.{bytes_of}
 use Rattle.refusals.specs.Order.{first_of}
 use Rattle.fields.specs.Bytes.{fields_of}
-use Rattle.frame.specs.Tests.{frameTests, lineTests}
+use Rattle.frame.specs.Tests.{frame_tests, line_tests}
 use Rattle.places.specs.declared.Held.{Held}
 use Rattle.places.specs.Holes.{at, added, withdrawn, closed}
 use Rattle.places.specs.Places.{stands_for}
-use Rattle.totals.specs.Totals.{totalsOf}
+use Rattle.totals.specs.Totals.{totals_of}
 use Rattle.sheet.specs.declared.Sheet.{Sheet}
 use Rattle.sheet.specs.declared.Refusal.{Refusal}
 use Rattle.sheet.specs.declared.Vacancy.TheVariants.{Vacant}
@@ -17,14 +17,14 @@ use Rattle.sheet.specs.declared.Placing.{Placing}
 use Rattle.sheet.specs.declared.Placing.TheVariants as placed
 use Rattle.sheet.specs.declared.Found.{Found}
 use Rattle.sheet.specs.declared.Found.TheVariants as there
-use Rattle.sheet.specs.Refusals.{number, vacancyNumber}
-use Rattle.sheet.specs.Tests.{addTests}
+use Rattle.sheet.specs.Refusals.{number, vacancy_number}
+use Rattle.sheet.specs.Tests.{add_tests}
 use Rattle.sheet.specs.Ends.{UpperEnd}
 
 -- with a case comes the upper end that was found of it: a list cannot find one
 pub data Operation : Type 0 where
-  addFrame : (frame : List ℕ) (upper : ℕ) → Operation
-  addLine : (line : List ℕ) (upper : ℕ) → Operation
+  add_frame : (frame : List ℕ) (upper : ℕ) → Operation
+  add_line : (line : List ℕ) (upper : ℕ) → Operation
   withdraw : (place : ℕ) → Operation
   close : Operation
   case_at : (place : ℕ) → Operation
@@ -45,12 +45,12 @@ unfoldable pub adding : Option Refusal → List (Option Held) → Held → Outco
 adding none xs h = record { list = added xs h; told = placing (placed.At (length xs + 1)) }
 adding (some r) xs h = record { list = xs; told = placing (placed.Refused r) }
 
-abbrev pub foundIn : Option Held → Found
-foundIn none = there.Refused Vacant
-foundIn (some h) = there.Held h.case
+abbrev pub found_in : Option Held → Found
+found_in none = there.Refused Vacant
+found_in (some h) = there.Held h.case
 
 unfoldable pub found : List (Option Held) → (place : ℕ) → Found
-found xs k = foundIn (at xs k)
+found xs k = found_in (at xs k)
 
 -- a case that is there leaves a gap, else nothing happens
 abbrev pub without : Option Held → List (Option Held) → (place : ℕ) → List (Option Held)
@@ -61,8 +61,8 @@ abbrev pub held_of : Case → (upper : ℕ) → Held
 held_of c u = record { case = c; upper = u }
 
 unfoldable pub act : List (Option Held) → Operation → Outcome
-act xs (addFrame frame u) = adding (first_of (addTests (frameTests frame) (fields_of frame) xs)) xs (held_of (fields_of frame) u)
-act xs (addLine line u) = adding (first_of (addTests (lineTests line) (fields_of (bytes_of line)) xs)) xs (held_of (fields_of (bytes_of line)) u)
+act xs (add_frame frame u) = adding (first_of (add_tests (frame_tests frame) (fields_of frame) xs)) xs (held_of (fields_of frame) u)
+act xs (add_line line u) = adding (first_of (add_tests (line_tests line) (fields_of (bytes_of line)) xs)) xs (held_of (fields_of (bytes_of line)) u)
 act xs (withdraw k) = record { list = without (at xs k) xs k; told = finding (found xs k) }
 act xs close = record { list = closed xs; told = counting (length (closed xs)) }
 act xs (case_at k) = record { list = xs; told = finding (found xs k) }
@@ -72,13 +72,13 @@ abbrev pub refusal : Told → Option ℕ
 refusal (placing (placed.At k)) = none
 refusal (placing (placed.Refused r)) = some (number r)
 refusal (finding (there.Held c)) = none
-refusal (finding (there.Refused v)) = some (vacancyNumber v)
+refusal (finding (there.Refused v)) = some (vacancy_number v)
 refusal (counting n) = none
 
 -- the end that is given with a case is one of its own
 abbrev pub EndFound : Operation → Type 0
-EndFound (addFrame frame u) = UpperEnd (fields_of frame) u
-EndFound (addLine line u) = UpperEnd (fields_of (bytes_of line)) u
+EndFound (add_frame frame u) = UpperEnd (fields_of frame) u
+EndFound (add_line line u) = UpperEnd (fields_of (bytes_of line)) u
 EndFound (withdraw k) = Unit {0}
 EndFound close = Unit {0}
 EndFound (case_at k) = Unit {0}
@@ -89,7 +89,7 @@ list_of s = stands_for s.places
 
 -- the totals are those worked afresh
 abbrev pub Right : Sheet → Type 0
-Right s = s.totals ≡ totalsOf (list_of s)
+Right s = s.totals ≡ totals_of (list_of s)
 
 -- t and this answer are the outcome x; a refusal hands the sheet back equal; right totals stay right, of others nothing is said
 pub record Gives (s : Sheet) (x : Outcome) (t : Sheet) (told : Told) : Type 0 where

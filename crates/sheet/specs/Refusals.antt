@@ -17,9 +17,9 @@ word (Faulty f) = faults.word f
 word Beyond = 98 ∷ 101 ∷ 121 ∷ 111 ∷ 110 ∷ 100 ∷ []
 word Full = 102 ∷ 117 ∷ 108 ∷ 108 ∷ []
 
-abbrev pub vacancyNumber : Vacancy → ℕ
-vacancyNumber Vacant = 18
+abbrev pub vacancy_number : Vacancy → ℕ
+vacancy_number Vacant = 18
 
 -- vacant
-abbrev pub vacancyWord : Vacancy → List ℕ
-vacancyWord Vacant = 118 ∷ 97 ∷ 99 ∷ 97 ∷ 110 ∷ 116 ∷ []
+abbrev pub vacancy_word : Vacancy → List ℕ
+vacancy_word Vacant = 118 ∷ 97 ∷ 99 ∷ 97 ∷ 110 ∷ 116 ∷ []

@@ -14,9 +14,9 @@ abbrev pub full : List (Option Held) → Bool
 full xs = eqb (length xs) 64
 
 -- tests 1 to 7
-unfoldable pub ownTests : List (Test Fault) → Case → List (Test Refusal)
-ownTests tests c = held Faulty tests ++ (Beyond when beyond c) ∷ []
+unfoldable pub own_tests : List (Test Fault) → Case → List (Test Refusal)
+own_tests tests c = held Faulty tests ++ (Beyond when beyond c) ∷ []
 
 -- then 17
-unfoldable pub addTests : List (Test Fault) → Case → List (Option Held) → List (Test Refusal)
-addTests tests c xs = ownTests tests c ++ (Full when full xs) ∷ []
+unfoldable pub add_tests : List (Test Fault) → Case → List (Option Held) → List (Test Refusal)
+add_tests tests c xs = own_tests tests c ++ (Full when full xs) ∷ []

@@ -6,10 +6,10 @@ ghost use Rattle.std.proofs.Math.Option.{none};
 ghost use Rattle.guidance.specs.CloudWords.{Heated};
 ghost use Rattle.refusals.specs.Faults.{filled};
 ghost use Rattle.places.specs.Holes.{withdrawn};
-ghost use Rattle.totals.specs.Keeping.{afterWithdrawing};
+ghost use Rattle.totals.specs.Keeping.{after_withdrawing};
 ghost use Rattle.limits.specs.Checks.{HeatedIfSound};
-ghost use Rattle.sheet.specs.Refusals.{number, word, vacancyNumber, vacancyWord};
-ghost use Rattle.sheet.specs.Operations.{addFrame, addLine, withdraw, close, placing, finding, counting, adding, list_of, Right, found, Gives, Does, DoesWith};
+ghost use Rattle.sheet.specs.Refusals.{number, word, vacancy_number, vacancy_word};
+ghost use Rattle.sheet.specs.Operations.{add_frame, add_line, withdraw, close, placing, finding, counting, adding, list_of, Right, found, Gives, Does, DoesWith};
 ghost use Rattle.sheet.specs.Steps.{Enters};
 
 use guidance::Case;
@@ -96,7 +96,7 @@ pub fn word_of(r: Refusal) -> [u8; 12]
 }
 
 pub fn number_of_vacancy(v: Vacancy) -> u64
-    ensures { result ≡ vacancyNumber v }
+    ensures { result ≡ vacancy_number v }
 {
     match v {
         Vacancy::Vacant => 18,
@@ -104,7 +104,7 @@ pub fn number_of_vacancy(v: Vacancy) -> u64
 }
 
 pub fn word_of_vacancy(v: Vacancy) -> [u8; 12]
-    ensures { result ≡ filled (vacancyWord v) }
+    ensures { result ≡ filled (vacancy_word v) }
 {
     match v {
         Vacancy::Vacant => *b"vacant\0\0\0\0\0\0",
@@ -175,7 +175,7 @@ impl Sheet {
 
     // The case of a frame's bytes, right after the last one; its place is told.
     pub fn add_frame(mut self, frame: &[u8]) -> Added
-        ensures { DoesWith self (addFrame frame.now) result.sheet (placing result.answer) }
+        ensures { DoesWith self (add_frame frame.now) result.sheet (placing result.answer) }
     {
         let s = frame::check_frame(frame);
         self.enter(s)
@@ -183,7 +183,7 @@ impl Sheet {
 
     // The same for a case given as a line.
     pub fn add_line(mut self, line: &[u8]) -> Added
-        ensures { DoesWith self (addLine line.now) result.sheet (placing result.answer) }
+        ensures { DoesWith self (add_line line.now) result.sheet (placing result.answer) }
     {
         let s = frame::check_line(line);
         self.enter(s)
@@ -192,7 +192,7 @@ impl Sheet {
     // A gap in the place of a case.
     fn take(mut self, place: usize) -> Self
         requires { (1 ≤ place) × (place ≤ 64) }
-        ensures { (list_of result ≡ withdrawn (list_of self) place) × (result.totals ≡ afterWithdrawing self.totals result.places place) }
+        ensures { (list_of result ≡ withdrawn (list_of self) place) × (result.totals ≡ after_withdrawing self.totals result.places place) }
     {
         let places = self.places.with(place, Content::Hole);
         self.totals = self.totals.after_withdrawing(places, place);

@@ -9,41 +9,41 @@ use lib.Seq.{length-sets}
 use borrow.Rule.Slice.PartMut.{mid_of, put_mid}
 use Rattle.bytes.specs.Numbers.{one, two, four, eight}
 use Rattle.bytes.specs.Storing.{Stored}
-use Rattle.bytes.specs.laws.Storing.{and_then, stored-as, through-part, at-start, sets-all}
-use Rattle.fields.specs.Bytes.{firstBytes}
-use Rattle.fields.specs.laws.Back.{first-length}
+use Rattle.bytes.specs.laws.Storing.{and_then, stored_as, through_part, at_start, sets_all}
+use Rattle.fields.specs.Bytes.{first_bytes}
+use Rattle.fields.specs.laws.Back.{first_length}
 use Rattle.places.specs.declared.Held.{Held}
-use Rattle.sheet_bytes.specs.Packing.{airWord, placeBytes}
+use Rattle.sheet_bytes.specs.Packing.{air_word, place_bytes}
 
 -- four times eight zeros
 pub zeros : (l a b d z : List ℕ) → length l ≡ 32 → Stored l 0 (eight 0) a → Stored a 8 (eight 0) b → Stored b 16 (eight 0) d → Stored d 24 (eight 0) z → z ≡ replicate 32 0
 unfolding eight four
 zeros l a b d z size p q r s =
     let all = and_then (and_then (and_then p q refl) r refl) s refl in
-    all.all ∙ sets-all l (eight 0 ++ eight 0 ++ eight 0 ++ eight 0) (sym size)
+    all.all ∙ sets_all l (eight 0 ++ eight 0 ++ eight 0 ++ eight 0) (sym size)
 
 -- 1, the first bytes of a frame, an end and an air pressure, over zeros
-pub case-stored
+pub case_stored
     : (z a part b d : List ℕ) (h : Held) (k word : ℕ) →
     k ≡ 22 →
     z ≡ replicate 32 0 →
     Stored z 0 (one 1) a →
-    Stored (mid_of 1 k a) 0 (firstBytes h.case) part →
+    Stored (mid_of 1 k a) 0 (first_bytes h.case) part →
     Stored (put_mid 1 k a part) 23 (four h.upper) b →
-    word ≡ airWord h.case.air →
+    word ≡ air_word h.case.air →
     Stored b 27 (two word) d →
-    d ≡ placeBytes (some h)
-unfolding placeBytes one two four
-case-stored z a part b d h k word width e p w q is r =
-    let first = firstBytes h.case in
-    let text = one 1 ++ first ++ four h.upper ++ two (airWord h.case.air) in
+    d ≡ place_bytes (some h)
+unfolding place_bytes one two four
+case_stored z a part b d h k word width e p w q is r =
+    let first = first_bytes h.case in
+    let text = one 1 ++ first ++ four h.upper ++ two (air_word h.case.air) in
     let long : length a ≡ 32 = ap length p.all ∙ length-sets z 0 (one 1) ∙ ap length e in
-    let there = through-part {L = a} {vs = first} {q = part} 1 k w (omega (arith, first-length h.case)) (omega (arith, long)) in
-    let size : length (one 1 ++ first) ≡ 23 = omega (arith, length-append (one 1) first, first-length h.case) in
+    let there = through_part {L = a} {vs = first} {q = part} 1 k w (omega (arith, first_length h.case)) (omega (arith, long)) in
+    let size : length (one 1 ++ first) ≡ 23 = omega (arith, length-append (one 1) first, first_length h.case) in
     let ended : length (one 1 ++ first ++ four h.upper) ≡ 27 = omega (arith, length-append (one 1 ++ first) (four h.upper), size) in
-    let air = stored-as r (ap two is) in
+    let air = stored_as r (ap two is) in
     let all : Stored z 0 text d = and_then (and_then (and_then p there refl) q (omega (arith, size))) air (omega (arith, ended)) in
-    let whole : length text ≡ 29 = omega (arith, length-append (one 1 ++ first ++ four h.upper) (two (airWord h.case.air)), ended) in
-    all.all ∙ at-start z text (omega (arith, whole, ap length e))
+    let whole : length text ≡ 29 = omega (arith, length-append (one 1 ++ first ++ four h.upper) (two (air_word h.case.air)), ended) in
+    all.all ∙ at_start z text (omega (arith, whole, ap length e))
     ∙ ap (λ (n : ℕ). text ++ drop n z) whole
     ∙ ap (λ (l : List ℕ). text ++ drop 29 l) e

@@ -2,7 +2,7 @@
 ghost use Rattle.std.specs.Prelude.{◌≡◌, ◌≤◌, length, replicate};
 ghost use Rattle.std.proofs.lemmas.List.Edits.{sets};
 ghost use Rattle.places.specs.Places.{holds, contents, stands_for};
-ghost use Rattle.sheet_bytes.specs.Packing.{airWord, airOfWord, placeBytes, sheetBytes, heldIn, unpacked, size};
+ghost use Rattle.sheet_bytes.specs.Packing.{air_word, air_of_word, place_bytes, sheet_bytes, held_in, unpacked, size};
 
 use places::{Content, Held, Place, Places};
 
@@ -24,13 +24,13 @@ fn clear(s: &mut [u8])
 
 // The air pressure as a place keeps it.
 fn air_word(air: u64) -> u64
-    ensures { result ≡ airWord air }
+    ensures { result ≡ air_word air }
 {
     if air == guidance::STANDARD { 0 } else { air }
 }
 
 fn air_of_word(n: u64) -> u64
-    ensures { result ≡ airOfWord n }
+    ensures { result ≡ air_of_word n }
 {
     if n == 0 { guidance::STANDARD } else { n }
 }
@@ -38,7 +38,7 @@ fn air_of_word(n: u64) -> u64
 // The 32 bytes of a place.
 fn put_place(s: &mut [u8], p: Place)
     requires { length s.old ≡ 32 }
-    ensures { s.new ≡ placeBytes (holds p) }
+    ensures { s.new ≡ place_bytes (holds p) }
 {
     clear(s);
     let content = p.content;
@@ -57,7 +57,7 @@ fn put_place(s: &mut [u8], p: Place)
 // What 32 bytes say.
 fn place_of(s: &[u8]) -> Place
     requires { length s.now ≡ 32 }
-    ensures { holds result ≡ heldIn s.now }
+    ensures { holds result ≡ held_in s.now }
 {
     if s[0] == 0 {
         return Place {
@@ -89,7 +89,7 @@ pub fn unpack(s: &[u8]) -> Places
 // The places, into the first 2,048 bytes.
 pub fn pack(s: &mut [u8], places: Places)
     requires { size ≤ length s.old }
-    ensures { s.new ≡ sets s.old 0 (sheetBytes (stands_for places)) }
+    ensures { s.new ≡ sets s.old 0 (sheet_bytes (stands_for places)) }
 {
     for i in 0..64 {
         let p = places.all[i];

@@ -22,9 +22,9 @@ is_pos : (z : ℤ) → le_z (pos 0) z ≡ true → (a : ℕ) × (z ≡ pos a)
 is_pos (pos a) h = (a, refl)
 is_pos (negsuc a) h = absurd (false≢true h)
 
-is-neg : (z : ℤ) → le_z (pos 0) z ≡ false → (a : ℕ) × (z ≡ negsuc a)
-is-neg (pos a) h = absurd (false≢true (sym h ∙ le-leb 0 a (omega arith)))
-is-neg (negsuc a) h = (a, refl)
+is_neg : (z : ℤ) → le_z (pos 0) z ≡ false → (a : ℕ) × (z ≡ negsuc a)
+is_neg (pos a) h = absurd (false≢true (sym h ∙ le-leb 0 a (omega arith)))
+is_neg (negsuc a) h = (a, refl)
 
 -- x is pos a, or negsuc a, after the test 0 <= x: as the contract has it and as the code reads it
 pub record Read (s : ℕ → ℤ) (x : ℤ) : Type 0 where
@@ -32,8 +32,8 @@ pub record Read (s : ℕ → ℤ) (x : ℤ) : Type 0 where
   pub same : x ≡ s a
   pub read : R x ≡ s a
 
-pub as-pos : (x : ℤ) → mag x < 2 ^ 63 → le_z (pos 0) (R x) ≡ true → Read pos x
-as-pos x h t = let p = is_pos _ t in record { a = p.0; same = sym (back x h) ∙ p.1; read = p.1 }
+pub as_pos : (x : ℤ) → mag x < 2 ^ 63 → le_z (pos 0) (R x) ≡ true → Read pos x
+as_pos x h t = let p = is_pos _ t in record { a = p.0; same = sym (back x h) ∙ p.1; read = p.1 }
 
-pub as-neg : (x : ℤ) → mag x < 2 ^ 63 → le_z (pos 0) (R x) ≡ false → Read negsuc x
-as-neg x h t = let p = is-neg _ t in record { a = p.0; same = sym (back x h) ∙ p.1; read = p.1 }
+pub as_neg : (x : ℤ) → mag x < 2 ^ 63 → le_z (pos 0) (R x) ≡ false → Read negsuc x
+as_neg x h t = let p = is_neg _ t in record { a = p.0; same = sym (back x h) ∙ p.1; read = p.1 }

@@ -7,7 +7,7 @@ use native.Mathlib.Omega.{arith}
 use lib.Dec.{ltb}
 use lib.Pow.{pow_pos, pow_mono}
 use borrow.Author.Tests.{le-ltb}
-use Rattle.exact.specs.laws.Tests.{ltb-same}
+use Rattle.exact.specs.laws.Tests.{ltb_same}
 use Rattle.span.specs.declared.Span.{Span}
 use Rattle.span.specs.Spans.{Normal, below}
 use Rattle.span.specs.Rounding.{ShiftedDown}
@@ -30,17 +30,17 @@ unscaled h l m P A B e z i j =
     omega (arith, s)
 
 module _ {a b : Span} (n : Normal a) (o : Normal b) where
-  pub greater-exponent : b.e < a.e → false ≡ below a b
+  pub greater_exponent : b.e < a.e → false ≡ below a b
   unfolding below
-  greater-exponent l =
+  greater_exponent l =
       let twice : 2 ^ (1 + b.e) ≤ 2 ^ a.e = pow_mono (omega arith) in
       sym
       (le-ltb (a.hi * 2 ^ a.e) (b.lo * 2 ^ b.e)
       (above a.hi b.lo (2 ^ a.e) (2 ^ b.e) n.least (omega (arith, o.ordered, o.most)) (omega (arith, twice, powers 1 b.e (1 + b.e) refl))))
 
-  pub by-mantissas : {m d : ℕ} → d + a.e ≡ b.e → ShiftedDown a.hi d m → ltb m b.lo ≡ below a b
+  pub by_mantissas : {m d : ℕ} → d + a.e ≡ b.e → ShiftedDown a.hi d m → ltb m b.lo ≡ below a b
   unfolding below
-  by-mantissas {m} {d} e s =
+  by_mantissas {m} {d} e s =
       let both = powers d a.e b.e e in
-      ltb-same (scaled a.hi b.lo m (2 ^ d) (2 ^ a.e) (2 ^ b.e) both s.below)
+      ltb_same (scaled a.hi b.lo m (2 ^ d) (2 ^ a.e) (2 ^ b.e) both s.below)
       (unscaled a.hi b.lo m (2 ^ d) (2 ^ a.e) (2 ^ b.e) both (pow_pos a.e) s.near)

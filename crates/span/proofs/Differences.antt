@@ -10,13 +10,13 @@ use Rattle.span.specs.Spans.{hull, Subtractable, Difference}
 use Rattle.span.specs.Rounding.{Roundable, Rounded, ShiftedDown, ShiftedUp}
 use Rattle.span.specs.Enclosing.{wider}
 use Rattle.span.specs.Powers.{powers}
-use Rattle.span.proofs.Points.{difference-points}
-use Rattle.span.proofs.Widths.{difference-width}
+use Rattle.span.proofs.Points.{difference_points}
+use Rattle.span.proofs.Widths.{difference_width}
 use Rattle.span.proofs.Operations.{moved}
 
 -- three quarters of a at most: the exponent is no greater
-pub lower-exponent : (a b : Span) → Subtractable a b → b.e ≤ a.e
-lower-exponent a b g = elim (dec_le b.e a.e) [ yes l ↦ l | no n ↦ absurd (never (b.e - a.e - 1) (omega arith)) ]
+pub lower_exponent : (a b : Span) → Subtractable a b → b.e ≤ a.e
+lower_exponent a b g = elim (dec_le b.e a.e) [ yes l ↦ l | no n ↦ absurd (never (b.e - a.e - 1) (omega arith)) ]
   where
     never : (j : ℕ) → b.e ≡ a.e + suc j → ⊥
     never j h =
@@ -34,39 +34,39 @@ module _ (a b : Span) (t u : ℕ) (g : Subtractable a b) (down : ShiftedDown b.l
   share : 4 * b.hi ≤ 3 * a.lo * 2 ^ (a.e - b.e)
   share =
       le_of_mul-le-mul_right {k = 2 ^ b.e}
-      (omega (arith, g.share, moved a.lo a.e b.e (a.e - b.e) (omega (arith, lower-exponent a b g)))) (pow_pos b.e)
+      (omega (arith, g.share, moved a.lo a.e b.e (a.e - b.e) (omega (arith, lower_exponent a b g)))) (pow_pos b.e)
 
   -- what is taken from either end is not more than there is
-  pub upper-taken : u ≤ a.lo
-  upper-taken =
+  pub upper_taken : u ≤ a.lo
+  upper_taken =
       let l : u < a.lo + 1 = lt_of_mul-lt-mul_right (4 * 2 ^ (a.e - b.e)) (omega (arith, share, up.near)) in omega arith
 
-  pub lower-taken : 4 * t ≤ 3 * a.lo
-  lower-taken = le_of_mul-le-mul_right {k = 2 ^ (a.e - b.e)} (omega (arith, share, down.below)) (pow_pos (a.e - b.e))
+  pub lower_taken : 4 * t ≤ 3 * a.lo
+  lower_taken = le_of_mul-le-mul_right {k = 2 ^ (a.e - b.e)} (omega (arith, share, down.below)) (pow_pos (a.e - b.e))
 
-  taken-ordered : t ≤ u
-  taken-ordered = le_of_mul-le-mul_right {k = 2 ^ (a.e - b.e)} (omega arith) (pow_pos (a.e - b.e))
+  taken_ordered : t ≤ u
+  taken_ordered = le_of_mul-le-mul_right {k = 2 ^ (a.e - b.e)} (omega arith) (pow_pos (a.e - b.e))
 
-  pub difference-roundable : (l h : ℕ) → l + u ≡ a.lo → h + t ≡ a.hi → Roundable l h a.e
-  difference-roundable l h el eh = let o = taken-ordered in let k = lower-taken in omega arith
+  pub difference_roundable : (l h : ℕ) → l + u ≡ a.lo → h + t ≡ a.hi → Roundable l h a.e
+  difference_roundable l h el eh = let o = taken_ordered in let k = lower_taken in omega arith
 
-  pub difference-rounded : (r : Span) (l h : ℕ) → l + u ≡ a.lo → h + t ≡ a.hi → Rounded l h a.e r → Difference a b r
+  pub difference_rounded : (r : Span) (l h : ℕ) → l + u ≡ a.lo → h + t ≡ a.hi → Rounded l h a.e r → Difference a b r
   unfolding hull
-  difference-rounded r l h el eh n =
+  difference_rounded r l h el eh n =
       let d = a.e - b.e in
-      let at : a.e ≡ b.e + d = omega (arith, lower-exponent a b g) in
+      let at : a.e ≡ b.e + d = omega (arith, lower_exponent a b g) in
       let A = 2 ^ a.e in
-      let k = lower-taken in
+      let k = lower_taken in
       record {
         normal = n.normal;
         holds =
-            difference-points _ _ _ _ _ _
+            difference_points _ _ _ _ _ _
             (omega (arith, n.below, moved u a.e b.e d at, mul-le-mul_right (2 ^ b.e) up.above, ap (λ (m : ℕ). m * A) el))
             (omega (arith, n.above, moved t a.e b.e d at, mul-le-mul_right (2 ^ b.e) down.below, ap (λ (m : ℕ). m * A) eh));
         width = λ C D v w.
             wider (omega arith)
             (n.width (4 * (C + D) + 8)
-            (difference-width a.lo a.hi b.lo b.hi t u l h (2 ^ d) C D (pow_pos d) (omega arith) (omega arith) el eh (omega arith) share (omega arith) (omega arith) v w));
+            (difference_width a.lo a.hi b.lo b.hi t u l h (2 ^ d) C D (pow_pos d) (omega arith) (omega arith) el eh (omega arith) share (omega arith) (omega arith) v w));
         least = omega (arith, n.least 28 (omega arith));
         most = omega (arith, n.most 32 (omega arith));
       }

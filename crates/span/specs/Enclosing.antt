@@ -4,61 +4,61 @@ use Rattle.std.proofs.Math.Option.{some}
 use Rattle.std.specs.Prelude.{ℕ, ◌*◌, ◌^◌, ◌≤◌, ◌<◌, ◌≡◌, true}
 use Rattle.std.proofs.Common.{mul-le-mul_right, mul-lt-mul_of_pos_right, arith, ltb-true}
 use Rattle.exact.specs.Fraction.{Frac}
-use Rattle.exact.specs.Formula.{Formula, const, add, sub, mul, div, least, bracketAt}
+use Rattle.exact.specs.Formula.{Formula, const, add, sub, mul, div, least, bracket_at}
 use Rattle.exact.specs.laws.Meeting.{meeting}
-use Rattle.exact.specs.laws.Containment.{Inside, contains-holds}
-use Rattle.exact.specs.laws.Inclusion.{binary-inside, binary-quotient, const-inside}
+use Rattle.exact.specs.laws.Containment.{Inside, contains_holds}
+use Rattle.exact.specs.laws.Inclusion.{binary_inside, binary_quotient, const_inside}
 use Rattle.exact.specs.Holding.{Holds}
 use Rattle.exact.specs.Smaller.{IsSmaller}
-use Rattle.exact.specs.laws.Smaller.{smaller-inside}
+use Rattle.exact.specs.laws.Smaller.{smaller_inside}
 use Rattle.span.specs.declared.Span.{Span}
-use Rattle.span.specs.Spans.{unit, unit-positive, units, hull, wholeF, fraction, Normal, Rel, Width, Whole, FractionOf, Constant, Product, Quotient, Sum, Difference, Smaller, below}
+use Rattle.span.specs.Spans.{unit, unit_positive, units, hull, whole_f, fraction, Normal, Rel, Width, Whole, FractionOf, Constant, Product, Quotient, Sum, Difference, Smaller, below}
 
 -- the span a contains the n-th bracket of x
 pub record Encloses (a : Span) (x : Formula) (n : ℕ) : Type 0 where
-  pub inside : Inside (bracketAt x n) (some (hull a))
+  pub inside : Inside (bracket_at x n) (some (hull a))
 
-pub constant-encloses : {c : Frac} {e : ℕ} {r : Span} → Constant c e r → (n : ℕ) → Encloses r (const c) n
-constant-encloses {c} {e} {r} k n = record { inside = const-inside c n (hull r) k.holds }
+pub constant_encloses : {c : Frac} {e : ℕ} {r : Span} → Constant c e r → (n : ℕ) → Encloses r (const c) n
+constant_encloses {c} {e} {r} k n = record { inside = const_inside c n (hull r) k.holds }
 
-pub whole-encloses : {m : ℕ} {r : Span} → Whole m r → (n : ℕ) → Encloses r (const (wholeF m)) n
-whole-encloses {m} {r} k n = record { inside = const-inside (wholeF m) n (hull r) k.holds }
+pub whole_encloses : {m : ℕ} {r : Span} → Whole m r → (n : ℕ) → Encloses r (const (whole_f m)) n
+whole_encloses {m} {r} k n = record { inside = const_inside (whole_f m) n (hull r) k.holds }
 
-pub fraction-encloses : {m d : ℕ} {r : Span} → FractionOf m d r → (z : 0 < d) (n : ℕ) → Encloses r (const (fraction m d z)) n
-fraction-encloses {m} {d} {r} k z n = record { inside = const-inside (fraction m d z) n (hull r) (k.holds z) }
+pub fraction_encloses : {m d : ℕ} {r : Span} → FractionOf m d r → (z : 0 < d) (n : ℕ) → Encloses r (const (fraction m d z)) n
+fraction_encloses {m} {d} {r} k z n = record { inside = const_inside (fraction m d z) n (hull r) (k.holds z) }
 
-pub product-encloses : {a b r : Span} {x y : Formula} {n : ℕ} → Product a b r → Encloses a x n → Encloses b y n → Encloses r (mul x y) n
-unfolding bracketAt
-product-encloses {x = x} {y = y} {n = n} p h k = record { inside = binary-inside x y n h.inside k.inside p.holds }
+pub product_encloses : {a b r : Span} {x y : Formula} {n : ℕ} → Product a b r → Encloses a x n → Encloses b y n → Encloses r (mul x y) n
+unfolding bracket_at
+product_encloses {x = x} {y = y} {n = n} p h k = record { inside = binary_inside x y n h.inside k.inside p.holds }
 
-pub sum-encloses : {a b r : Span} {x y : Formula} {n : ℕ} → Sum a b r → Encloses a x n → Encloses b y n → Encloses r (add x y) n
-unfolding bracketAt
-sum-encloses {x = x} {y = y} {n = n} s h k = record { inside = binary-inside x y n h.inside k.inside s.holds }
+pub sum_encloses : {a b r : Span} {x y : Formula} {n : ℕ} → Sum a b r → Encloses a x n → Encloses b y n → Encloses r (add x y) n
+unfolding bracket_at
+sum_encloses {x = x} {y = y} {n = n} s h k = record { inside = binary_inside x y n h.inside k.inside s.holds }
 
-pub difference-encloses : {a b r : Span} {x y : Formula} {n : ℕ} → Difference a b r → Encloses a x n → Encloses b y n → Encloses r (sub x y) n
-unfolding bracketAt
-difference-encloses {x = x} {y = y} {n = n} s h k = record { inside = binary-inside x y n h.inside k.inside s.holds }
+pub difference_encloses : {a b r : Span} {x y : Formula} {n : ℕ} → Difference a b r → Encloses a x n → Encloses b y n → Encloses r (sub x y) n
+unfolding bracket_at
+difference_encloses {x = x} {y = y} {n = n} s h k = record { inside = binary_inside x y n h.inside k.inside s.holds }
 
-pub smaller-encloses : {a b r : Span} {x y : Formula} {n : ℕ} → Smaller a b r → Encloses a x n → Encloses b y n → Encloses r (least x y) n
-unfolding bracketAt
-smaller-encloses {x = x} {y = y} {n = n} s h k = record { inside = binary-inside x y n h.inside k.inside s.holds }
+pub smaller_encloses : {a b r : Span} {x y : Formula} {n : ℕ} → Smaller a b r → Encloses a x n → Encloses b y n → Encloses r (least x y) n
+unfolding bracket_at
+smaller_encloses {x = x} {y = y} {n = n} s h k = record { inside = binary_inside x y n h.inside k.inside s.holds }
 
-pub quotient-encloses : {a b r : Span} {x y : Formula} {n : ℕ} → Quotient a b r → Encloses a x n → Encloses b y n → Encloses r (div x y) n
-unfolding bracketAt
-quotient-encloses {x = x} {y = y} {n = n} q h k =
-    record { inside = binary-quotient (bracketAt x n) (bracketAt y n) (meeting x n n) (meeting y n n) h.inside k.inside q.divisor q.holds }
+pub quotient_encloses : {a b r : Span} {x y : Formula} {n : ℕ} → Quotient a b r → Encloses a x n → Encloses b y n → Encloses r (div x y) n
+unfolding bracket_at
+quotient_encloses {x = x} {y = y} {n = n} q h k =
+    record { inside = binary_quotient (bracket_at x n) (bracket_at y n) (meeting x n n) (meeting y n n) h.inside k.inside q.divisor q.holds }
 
 -- two spans apart: of what they enclose the one is the smaller
-pub below-smaller : {a b : Span} {x y : Formula} {n : ℕ} → 1 ≤ n → below a b ≡ true → Encloses a x n → Encloses b y n → IsSmaller x y
+pub below_smaller : {a b : Span} {x y : Formula} {n : ℕ} → 1 ≤ n → below a b ≡ true → Encloses a x n → Encloses b y n → IsSmaller x y
 unfolding below hull units
-below-smaller {a} {b} {x} {y} {n} o l h k =
+below_smaller {a} {b} {x} {y} {n} o l h k =
     let less = ltb-true (a.hi * 2 ^ a.e) (b.lo * 2 ^ b.e) l in
-    let more = mul-lt-mul_of_pos_right {k = unit} less unit-positive in
-    smaller-inside x y n o (hull a) (hull b) h.inside k.inside (record { less = λ m. absurd (omega (arith, more, m.cross)) })
+    let more = mul-lt-mul_of_pos_right {k = unit} less unit_positive in
+    smaller_inside x y n o (hull a) (hull b) h.inside k.inside (record { less = λ m. absurd (omega (arith, more, m.cross)) })
 
 -- at the end: a span that contains one bracket holds the exact value
-pub encloses-holds : {a : Span} {x : Formula} {n : ℕ} → 1 ≤ n → Encloses a x n → Holds (hull a) x
-encloses-holds {a} {x} {n} o h = contains-holds x n o (hull a) h.inside
+pub encloses_holds : {a : Span} {x : Formula} {n : ℕ} → 1 ≤ n → Encloses a x n → Holds (hull a) x
+encloses_holds {a} {x} {n} o h = contains_holds x n o (hull a) h.inside
 
 -- Widths
 

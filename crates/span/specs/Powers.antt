@@ -20,8 +20,8 @@ pub factored : (p q s t : ℕ) → p * 2 ^ s * (q * 2 ^ t) ≡ p * q * 2 ^ (s + 
 factored p q s t = rw pow-add (simp product)
 
 -- the exponent below, from the power below
-pub exponent-below : (i j : ℕ) → 2 ^ i < 2 ^ j → i < j
-exponent-below i j h = elim (dec_lt i j) [ yes l ↦ l | no n ↦ (let far : 2 ^ j ≤ 2 ^ i = pow_mono (omega arith) in omega arith) ]
+pub exponent_below : (i j : ℕ) → 2 ^ i < 2 ^ j → i < j
+exponent_below i j h = elim (dec_lt i j) [ yes l ↦ l | no n ↦ (let far : 2 ^ j ≤ 2 ^ i = pow_mono (omega arith) in omega arith) ]
 
 pub product_high : {a b : ℕ} → a ≤ 2 ^ 31 → b ≤ 2 ^ 31 → a * b ≤ 2 ^ 62
 product_high ha hb = mul-le-mul ha hb
@@ -30,11 +30,11 @@ product_high ha hb = mul-le-mul ha hb
 pub quotient : (x y : ℕ) → 0 < y → (x / y * y ≤ x) × (x < x / y * y + y)
 quotient x y h = (div-mul-le_self x y, lt-div-mul-add h)
 
-pub quotient-least : (x y l : ℕ) → 0 < y → l * y ≤ x → l ≤ x / y
-quotient-least x y l h le = (le-div_iff_mul-le h).1 le
+pub quotient_least : (x y l : ℕ) → 0 < y → l * y ≤ x → l ≤ x / y
+quotient_least x y l h le = (le-div_iff_mul-le h).1 le
 
-pub quotient-below : (x y u : ℕ) → 0 < y → x < u * y → x / y < u
-quotient-below x y u h lt = (div-lt_iff_lt-mul {y = u} h).1 lt
+pub quotient_below : (x y u : ℕ) → 0 < y → x < u * y → x / y < u
+quotient_below x y u h lt = (div-lt_iff_lt-mul {y = u} h).1 lt
 
 pub next : (q y : ℕ) → (q + 1) * y ≡ q * y + y
 next q y = rw add-one (suc-mul q y)

@@ -24,9 +24,9 @@ pub record Roundable (lo hi e : ℕ) : Type 0 where
 pub record Rounded (lo hi e : ℕ) (r : Span) : Type 0 where
   pub normal : Normal r
   pub below : r.lo * 2 ^ r.e ≤ lo * 2 ^ e
-  pub lower-greatest : (m : ℕ) → m * 2 ^ r.e ≤ lo * 2 ^ e → m ≤ r.lo
+  pub lower_greatest : (m : ℕ) → m * 2 ^ r.e ≤ lo * 2 ^ e → m ≤ r.lo
   pub above : hi * 2 ^ e ≤ r.hi * 2 ^ r.e
-  pub upper-least : (m : ℕ) → hi * 2 ^ e ≤ m * 2 ^ r.e → r.hi ≤ m
+  pub upper_least : (m : ℕ) → hi * 2 ^ e ≤ m * 2 ^ r.e → r.hi ≤ m
   pub width : (D : ℕ) → Rel lo hi D → Width r (D + 2)
   pub least : (k : ℕ) → 2 ^ k ≤ hi → e + k ≤ r.e + 30
   pub most : (k : ℕ) → hi < 2 ^ k → r.e + 31 ≤ e + k

@@ -12,20 +12,20 @@ use Rattle.span.specs.declared.Span.{Span}
 unfoldable pub unit : ℕ
 unit = 2 ^ 1024
 
-pub unit-positive : 0 < unit
+pub unit_positive : 0 < unit
 unfolding unit
-unit-positive = pow_pos 1024
+unit_positive = pow_pos 1024
 
 -- v units, as a fraction
 unfoldable pub units : ℕ → Frac
-units v = record { plus = v; minus = 0; den = unit; positive = unit-positive }
+units v = record { plus = v; minus = 0; den = unit; positive = unit_positive }
 
 -- the bracket that a span stands for: `p ∈ hull a` says that the fraction p lies in a
 unfoldable pub hull : Span → Bracket
 hull a = record { lo = units (a.lo * 2 ^ a.e); hi = units (a.hi * 2 ^ a.e) }
 
-unfoldable pub wholeF : ℕ → Frac
-wholeF n = record { plus = n; minus = 0; den = 1; positive = omega arith }
+unfoldable pub whole_f : ℕ → Frac
+whole_f n = record { plus = n; minus = 0; den = 1; positive = omega arith }
 
 -- n/d
 unfoldable pub fraction : (n d : ℕ) → 0 < d → Frac
@@ -48,9 +48,9 @@ Width a D = Rel a.lo a.hi D
 
 pub record Whole (n : ℕ) (r : Span) : Type 0 where
   pub normal : Normal r
-  pub holds : wholeF n ∈ hull r
-  pub lower-greatest : (m : ℕ) → m * 2 ^ r.e ≤ n * unit → m ≤ r.lo
-  pub upper-least : (m : ℕ) → n * unit ≤ m * 2 ^ r.e → r.hi ≤ m
+  pub holds : whole_f n ∈ hull r
+  pub lower_greatest : (m : ℕ) → m * 2 ^ r.e ≤ n * unit → m ≤ r.lo
+  pub upper_least : (m : ℕ) → n * unit ≤ m * 2 ^ r.e → r.hi ≤ m
   pub width : Width r 2
   pub least : (k : ℕ) → 2 ^ k ≤ n → 994 + k ≤ r.e
   pub most : (k : ℕ) → n < 2 ^ k → r.e ≤ 993 + k
@@ -83,8 +83,8 @@ pub record Factors (a b : Span) : Type 0 where
 pub record Product (a b r : Span) : Type 0 where
   pub normal : Normal r
   pub holds : (p q : Frac) → p ∈ hull a → q ∈ hull b → p ⊠ q ∈ hull r
-  pub lower-greatest : (m : ℕ) → m * 2 ^ r.e * unit ≤ a.lo * 2 ^ a.e * (b.lo * 2 ^ b.e) → m ≤ r.lo
-  pub upper-least : (m : ℕ) → a.hi * 2 ^ a.e * (b.hi * 2 ^ b.e) ≤ m * 2 ^ r.e * unit → r.hi ≤ m
+  pub lower_greatest : (m : ℕ) → m * 2 ^ r.e * unit ≤ a.lo * 2 ^ a.e * (b.lo * 2 ^ b.e) → m ≤ r.lo
+  pub upper_least : (m : ℕ) → a.hi * 2 ^ a.e * (b.hi * 2 ^ b.e) ≤ m * 2 ^ r.e * unit → r.hi ≤ m
   pub width : (C D : ℕ) → Width a C → Width b D → Width r (C + D + 2)
   pub least : a.e + b.e ≤ r.e + 994
   pub most : r.e + 992 ≤ a.e + b.e
@@ -102,8 +102,8 @@ pub record Quotient (a b r : Span) : Type 0 where
   pub normal : Normal r
   pub divisor : Positive (hull b).lo
   pub holds : (p q : Frac) → p ∈ hull a → q ∈ hull b → (h : Positive q) → p ⊠ inverse q h ∈ hull r
-  pub lower-greatest : (m : ℕ) → m * 2 ^ r.e * (b.hi * 2 ^ b.e) ≤ a.lo * 2 ^ a.e * unit → m ≤ r.lo
-  pub upper-least : (m : ℕ) → a.hi * 2 ^ a.e * unit ≤ m * 2 ^ r.e * (b.lo * 2 ^ b.e) → r.hi ≤ m
+  pub lower_greatest : (m : ℕ) → m * 2 ^ r.e * (b.hi * 2 ^ b.e) ≤ a.lo * 2 ^ a.e * unit → m ≤ r.lo
+  pub upper_least : (m : ℕ) → a.hi * 2 ^ a.e * unit ≤ m * 2 ^ r.e * (b.lo * 2 ^ b.e) → r.hi ≤ m
   pub width : (C D : ℕ) → Width a C → Width b D → Width r (C + D + 4)
   pub least : a.e + 993 ≤ r.e + b.e
   pub most : r.e + b.e ≤ a.e + 996
@@ -123,17 +123,17 @@ pub record WholeQuotient (a : Span) (n : ℕ) (r : Span) : Type 0 where
 pub record Summands (a b : Span) : Type 0 where
   pub left : Normal a
   pub right : Normal b
-  pub least-left : 31 ≤ a.e
-  pub least-right : 31 ≤ b.e
-  pub most-left : a.e < 2 ^ 16
-  pub most-right : b.e < 2 ^ 16
+  pub least_left : 31 ≤ a.e
+  pub least_right : 31 ≤ b.e
+  pub most_left : a.e < 2 ^ 16
+  pub most_right : b.e < 2 ^ 16
 
 pub record Sum (a b r : Span) : Type 0 where
   pub normal : Normal r
   pub holds : (p q : Frac) → p ∈ hull a → q ∈ hull b → p ⊞ q ∈ hull r
   pub width : (D : ℕ) → Width a D → Width b D → Width r (D + 4)
-  pub least-left : a.e ≤ r.e
-  pub least-right : b.e ≤ r.e
+  pub least_left : a.e ≤ r.e
+  pub least_right : b.e ≤ r.e
   -- the greater of the two and 2 more, in words that omega reads
   pub most : r.e ≤ a.e + (b.e - a.e) + 2
 

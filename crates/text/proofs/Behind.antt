@@ -6,8 +6,8 @@ use native.Mathlib.Omega.{arith}
 use lib.ListN.{length, set, length-set}
 use borrow.Rule.Slice.PartMut.{mid_of, put_mid}
 use Rattle.text.specs.Writers.{over, Puts}
-use Rattle.text.specs.laws.Writers.{over-store, over-part}
-use Rattle.text.specs.laws.Tails.{part_to_end, put-to-end, room-from}
+use Rattle.text.specs.laws.Writers.{over_store, over_part}
+use Rattle.text.specs.laws.Tails.{part_to_end, put_to_end, room_from}
 
 pub behind
     : (text more before whole part : List ℕ) (at : ℕ) →
@@ -16,10 +16,10 @@ pub behind
     part ≡ over more (mid_of at (length whole - at) whole) →
     put_mid at (length whole - at) whole part ≡ over (text ++ more) before
 behind text more before whole part at e size w =
-    put-to-end at whole part ∙ rw (w, part_to_end at whole, e, size) (over-part text more before)
+    put_to_end at whole part ∙ rw (w, part_to_end at whole, e, size) (over_part text more before)
 
-pub room-behind : (tag : ℕ) (before : List ℕ) (n : ℕ) → n + 1 ≤ length before → n ≤ length (mid_of 1 (length (set before 0 tag) - 1) (set before 0 tag))
-room-behind tag before n h = room-from 1 (set before 0 tag) n (omega (arith, length-set before 0 tag))
+pub room_behind : (tag : ℕ) (before : List ℕ) (n : ℕ) → n + 1 ≤ length before → n ≤ length (mid_of 1 (length (set before 0 tag) - 1) (set before 0 tag))
+room_behind tag before n h = room_from 1 (set before 0 tag) n (omega (arith, length-set before 0 tag))
 
 -- a byte, and a text behind it
 pub tagged
@@ -31,7 +31,7 @@ tagged tag {more} {before} {part} h p =
     record {
       size = omega (arith, p.size);
       short = omega (arith, p.short);
-      bytes = behind (tag ∷ []) more before (set before 0 tag) part 1 (over-store [] before before 0 tag refl refl h) refl p.bytes;
+      bytes = behind (tag ∷ []) more before (set before 0 tag) part 1 (over_store [] before before 0 tag refl refl h) refl p.bytes;
     }
 
 pub widened : {text before after : List ℕ} {most r : ℕ} (more : ℕ) → most ≤ more → Puts text most before after r → Puts text more before after r

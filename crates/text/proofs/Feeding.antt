@@ -10,15 +10,15 @@ use borrow.Rule.Slice.PartMut.{mid_of, put_mid}
 use Rattle.text.specs.declared.Stream.{Stream}
 use Rattle.text.specs.declared.Fed.{Fed}
 use Rattle.text.specs.Lines.{ended, left}
-use Rattle.text.specs.laws.Lines.{ended-append}
+use Rattle.text.specs.laws.Lines.{ended_append}
 use Rattle.text.specs.Records.{Text, longest}
-use Rattle.text.specs.laws.Texts.{text-append}
+use Rattle.text.specs.laws.Texts.{text_append}
 use Rattle.text.specs.Streams.{Sound, Stands}
 use Rattle.text.specs.Promises.{Ready, Taken}
 use Rattle.text.specs.Feeding.{Steps}
-use Rattle.text.specs.laws.Reaching.{reached-none, reached-append}
+use Rattle.text.specs.laws.Reaching.{reached_none, reached_append}
 use Rattle.text.specs.Records.Text.{none}
-use Rattle.text.specs.laws.Tails.{part_to_end, put-to-end, room-from}
+use Rattle.text.specs.laws.Tails.{part_to_end, put_to_end, room_from}
 
 -- before the first turn nothing is taken
 pub taken_none : (s : Stream) (part before : List ℕ) → Sound s → Taken s part before (record { stream = s; used = 0; written = 0 }) before
@@ -30,7 +30,7 @@ taken_none s part before sound =
       same = refl;
       text = λ lines p st. none;
       others = refl;
-      reached = reached-none s sound;
+      reached = reached_none s sound;
       begun = omega arith;
     }
 
@@ -51,37 +51,37 @@ module _
   dropped : drop (written + r.written) (take written out ++ tail) ≡ drop r.written tail
   dropped = rw size at (drop-append-add (take written out) tail r.written)
 
-  text-again
+  text_again
       : (lines : ℕ) (p : List ℕ) →
       Stands s lines p →
       Text (suc lines) (ended p (take (used + r.used) part)) (take (written + r.written) (take written out ++ tail))
-  text-again lines p st =
+  text_again lines p st =
       let a = take used part in
-      rw (both, ended-append p a (take r.used (drop used part)), taken)
-      (text-append
+      rw (both, ended_append p a (take r.used (drop used part)), taken)
+      (text_append
       (so_far.text lines p st)
       (rw (suc-add lines (length (ended p a)))
       (more.text (lines + length (ended p a)) (left p a) (so_far.reached.stands lines p st))))
 
-  pub taken-again
+  pub taken_again
       : Taken
       s
       part
       before
       (record { stream = r.stream; used = used + r.used; written = written + r.written })
       (take written out ++ tail)
-  taken-again =
+  taken_again =
       record {
         used = omega (arith, so_far.used, more.used, length-drop used part);
         written = omega (arith, so_far.written, so_far.same, more.written, length-drop written out);
         same = omega (arith, length-append (take written out) tail, size, more.same, so_far.same, so_far.written, length-drop written out);
-        text = text-again;
+        text = text_again;
         others =
             dropped
             ∙ more.others
             ∙ ap (drop r.written) so_far.others
             ∙ drop-drop r.written written before;
-        reached = rw both (reached-append (take used part) (take r.used (drop used part)) so_far.reached more.reached);
+        reached = rw both (reached_append (take used part) (take r.used (drop used part)) so_far.reached more.reached);
         begun = omega (arith, so_far.begun, more.begun);
       }
 
@@ -89,16 +89,16 @@ module _
 module _
     {s : Stream} {part before : List ℕ} {stream : Stream} {used written : ℕ} {out : List ℕ}
     (so_far : Taken s part before (record { stream = stream; used = used; written = written }) out) where
-  pub ready-again
+  pub ready_again
       : Ready s (length part) before →
       longest ≤ length out - written →
       Ready stream (length (mid_of used (length part - used) part)) (mid_of written (length out - written) out)
-  ready-again ready room =
+  ready_again ready room =
       rw (part_to_end used part)
       (record {
         sound = so_far.reached.sound;
         numbers = omega (arith, ready.numbers, so_far.reached.lines, so_far.used, length-take-le used part so_far.used, length-drop used part);
-        room = room-from written out longest (omega (arith, room));
+        room = room_from written out longest (omega (arith, room));
       })
 
   module _ {r : Fed} {tail : List ℕ} (step : Steps stream (mid_of used (length part - used) part) (mid_of written (length out - written) out) r tail) where
@@ -109,7 +109,7 @@ module _
         before
         (record { stream = r.stream; used = used + r.used; written = written + r.written })
         (put_mid written (length out - written) out tail)
-    turn = rw (put-to-end written out tail) (taken-again so_far (rw (part_to_end used part, part_to_end written out) at step.taken))
+    turn = rw (put_to_end written out tail) (taken_again so_far (rw (part_to_end used part, part_to_end written out) at step.taken))
 
     pub goes_on : used < length part → length part - (used + r.used) < length part - used
-    goes_on h = omega (arith, step.goes (room-from used part 1 (omega (arith, h))))
+    goes_on h = omega (arith, step.goes (room_from used part 1 (omega (arith, h))))

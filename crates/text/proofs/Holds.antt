@@ -19,16 +19,16 @@ pub record Holding (start chars : List ℕ) (from n : ℕ) (line : List ℕ) (i 
   pub within : i ≤ n
   pub held : take (from + i) line ≡ take from start ++ take i chars
 
-pub hold-first : (start chars : List ℕ) (from n : ℕ) → from + n ≤ length start → n ≤ length chars → Holding start chars from n start 0
-hold-first start chars from n room there =
+pub hold_first : (start chars : List ℕ) (from n : ℕ) → from + n ≤ length start → n ≤ length chars → Holding start chars from n start 0
+hold_first start chars from n room there =
     record { same = refl; room = room; there = there; within = omega arith; held = rw (add-zero from) (sym (append-nil (take from start))) }
 
-pub hold-again
+pub hold_again
     : {start chars : List ℕ} {from n : ℕ} {line : List ℕ} {i : ℕ} →
     Holding start chars from n line i →
     i < n →
     Holding start chars from n (set line (from + i) (get_or chars i 0)) (i + 1)
-hold-again {start} {chars} {from} {n} {line} {i} h l =
+hold_again {start} {chars} {from} {n} {line} {i} h l =
     let next : from + (i + 1) ≡ suc (from + i) = omega arith in
     let inside : from + i < length line = omega arith in
     let there : i < length chars = omega arith in
@@ -45,8 +45,8 @@ hold-again {start} {chars} {from} {n} {line} {i} h l =
     }
 
 -- as many as there are, or as there is room for
-least-take : (room : ℕ) (chars : List ℕ) → take (room - (room - length chars)) chars ≡ take room chars
-least-take room chars =
+least_take : (room : ℕ) (chars : List ℕ) → take (room - (room - length chars)) chars ≡ take room chars
+least_take room chars =
     settle (leb (length chars) room)
     (λ e.
     let all : length chars ≤ room = leb-true (length chars) room e in
@@ -57,18 +57,18 @@ least-take room chars =
     rw full)
 
 -- all room is used, or all characters
-pub hold-last
+pub hold_last
     : {start chars : List ℕ} {from n : ℕ} {line : List ℕ} {i : ℕ} →
     Holding start chars from n line i →
     n ≤ i →
     from ≤ 49 →
     n ≡ 49 - from - (49 - from - length chars) →
     take (from + n) line ≡ take 49 (take from start ++ chars)
-hold-last {start} {chars} {from} {n} {line} {i} h l most e =
+hold_last {start} {chars} {from} {n} {line} {i} h l most e =
     let all : n ≡ i = omega arith in
     let size : length (take from start) ≡ from = length-take-le from start (omega arith) in
     let whole : length (take from start) + (49 - from) ≡ 49 = omega arith in
-    let most-held : take i chars ≡ take (49 - from) chars = rw (← all, e) (least-take (49 - from) chars) in
+    let most_held : take i chars ≡ take (49 - from) chars = rw (← all, e) (least_take (49 - from) chars) in
     let cut : take 49 (take from start ++ chars) ≡ take from start ++ take (49 - from) chars
     = rw whole at (take-append-add (take from start) chars (49 - from)) in
-    rw (all, h.held) (ap (λ (t : List ℕ). take from start ++ t) most-held ∙ sym cut)
+    rw (all, h.held) (ap (λ (t : List ℕ). take from start ++ t) most_held ∙ sym cut)

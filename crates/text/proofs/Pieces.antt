@@ -8,13 +8,13 @@ use lib.Seq.{append_snoc, take_all}
 use borrow.Rule.Slice.PartMut.{mid_of, put_mid}
 use Rattle.frame.specs.declared.Verdict.{Verdict}
 use Rattle.frame.specs.declared.Verdict.TheVariants.{Accepted, Refused}
-use Rattle.frame.specs.Verdicts.{lineVerdict}
+use Rattle.frame.specs.Verdicts.{line_verdict}
 use Rattle.answer.specs.Answer.{Answered, FromLine}
 use Rattle.text.specs.Lines.{lf}
 use Rattle.text.specs.Digits.{decimal}
 use Rattle.text.specs.Records.{said, Answers, longest}
 use Rattle.text.specs.Writers.{Puts, Printed}
-use Rattle.text.specs.laws.Writers.{over-store}
+use Rattle.text.specs.laws.Writers.{over_store}
 use Rattle.text.proofs.Behind.{behind}
 
 -- an area of 77 bytes is the answer frame
@@ -35,17 +35,17 @@ pub printed
     Puts (said v bytes) 155 (mid_of (n + 1) (length (set first n 32) - (n + 1)) (set first n 32)) part m →
     Printed k line out (set (put_mid (n + 1) (length (set first n 32) - (n + 1)) (set first n 32) part) (n + 1 + m) lf) (n + 1 + m + 1)
 printed {k} {line} {out} {zeros} {bytes} {first} {part} {v} {n} {m} room size answer number says =
-    let judged : v ≡ lineVerdict line 77 = answer.verdict ∙ ap (lineVerdict line) size in
+    let judged : v ≡ line_verdict line 77 = answer.verdict ∙ ap (line_verdict line) size in
     let head = decimal k ++ (32 ∷ []) in
     let body = head ++ said v bytes in
-    let n-is : n ≡ length (decimal k) = number.size in
-    let m-is : m ≡ length (said v bytes) = says.size in
-    let head-size : n + 1 ≡ length head = omega (arith, length-append (decimal k) (32 ∷ [])) in
-    let body-size : n + 1 + m ≡ length body = omega (arith, length-append head (said v bytes)) in
+    let n_is : n ≡ length (decimal k) = number.size in
+    let m_is : m ≡ length (said v bytes) = says.size in
+    let head_size : n + 1 ≡ length head = omega (arith, length-append (decimal k) (32 ∷ [])) in
+    let body_size : n + 1 + m ≡ length body = omega (arith, length-append head (said v bytes)) in
     let few : n ≤ 20 = number.short in
     let short : m ≤ 155 = says.short in
-    let spaced = over-store (decimal k) out first n 32 number.bytes n-is (omega arith) in
-    let told = behind head (said v bytes) out (set first n 32) part (n + 1) spaced head-size says.bytes in
+    let spaced = over_store (decimal k) out first n 32 number.bytes n_is (omega arith) in
+    let told = behind head (said v bytes) out (set first n 32) part (n + 1) spaced head_size says.bytes in
     record {
       text = body ++ (lf ∷ []);
       correct =
@@ -59,6 +59,6 @@ printed {k} {line} {out} {zeros} {bytes} {first} {part} {v} {n} {m} room size an
             size = omega (arith, length-append body (lf ∷ []));
             short = omega arith;
             bytes =
-                over-store body out (put_mid (n + 1) (length (set first n 32) - (n + 1)) (set first n 32) part) (n + 1 + m) lf told body-size (omega arith);
+                over_store body out (put_mid (n + 1) (length (set first n 32) - (n + 1)) (set first n 32) part) (n + 1 + m) lf told body_size (omega arith);
           };
     }

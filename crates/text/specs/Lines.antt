@@ -16,9 +16,9 @@ left p [] = p
 left p (b ∷ input) = cond (eqb b lf) (left [] input) (left (p ++ (b ∷ [])) input)
 
 -- characters that no LF follows are a line too; none are no line
-unfoldable pub lastLine : List ℕ → List (List ℕ)
-lastLine [] = []
-lastLine (b ∷ line) = (b ∷ line) ∷ []
+unfoldable pub last_line : List ℕ → List (List ℕ)
+last_line [] = []
+last_line (b ∷ line) = (b ∷ line) ∷ []
 
 unfoldable pub lines_of : List ℕ → List (List ℕ)
-lines_of input = ended [] input ++ lastLine (left [] input)
+lines_of input = ended [] input ++ last_line (left [] input)

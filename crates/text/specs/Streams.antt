@@ -1,7 +1,7 @@
 -- What a stream stands for, and the text that is due after it.
 use Rattle.std.specs.Prelude.{ℕ, suc, ◌+◌, ◌≤◌, ◌≡◌, List, length, take}
 use Rattle.text.specs.declared.Stream.{Stream}
-use Rattle.text.specs.Lines.{ended, left, lastLine}
+use Rattle.text.specs.Lines.{ended, left, last_line}
 use Rattle.text.specs.Records.{Text}
 
 -- at most 49 characters are held, in an array of 49
@@ -28,4 +28,4 @@ Tells s bytes text = (lines : ℕ) (p : List ℕ) → Stands s lines p → Text 
 
 -- the text is that of the last line, which no LF ends
 abbrev pub TellsLast : (s : Stream) (text : List ℕ) → Type 0
-TellsLast s text = (lines : ℕ) (p : List ℕ) → Stands s lines p → Text (suc lines) (lastLine p) text
+TellsLast s text = (lines : ℕ) (p : List ℕ) → Stands s lines p → Text (suc lines) (last_line p) text

@@ -1,6 +1,6 @@
 // Numbers as text, written at the start of an area.
 ghost use Rattle.std.specs.Prelude.{◌+◌, ◌*◌, ◌≤◌, ◌<◌, ◌≡◌, length};
-ghost use Rattle.hexadecimals.specs.Written.{digitsOf};
+ghost use Rattle.hexadecimals.specs.Written.{digits_of};
 ghost use Rattle.text.specs.Digits.{decimal};
 ghost use Rattle.text.specs.Writers.{Puts};
 
@@ -44,7 +44,7 @@ pub fn put_decimal(n: u64, out: &mut [u8]) -> usize
 // Two upper-case digits for each byte.
 pub fn put_hexadecimal(bytes: &[u8], out: &mut [u8]) -> usize
     requires { 2 * length bytes.now ≤ length out.old }
-    ensures { Puts (digitsOf bytes.now) (2 * length bytes.now) out.old out.new result }
+    ensures { Puts (digits_of bytes.now) (2 * length bytes.now) out.old out.new result }
 {
     hexadecimals::write(bytes, out);
     2 * bytes.len()

@@ -2,22 +2,22 @@
 use Rattle.std.specs.Prelude.{ℕ, ◌≡◌, List, length}
 use Rattle.std.proofs.lemmas.List.Edits.{sets}
 use Rattle.guidance.specs.declared.Case.{Case}
-use Rattle.hexadecimals.specs.Written.{digitsOf}
-use Rattle.old_case.specs.Cases.{oldCaseOf}
-use Rattle.old_bytes.specs.Bytes.{oldBytes}
+use Rattle.hexadecimals.specs.Written.{digits_of}
+use Rattle.old_case.specs.Cases.{old_case_of}
+use Rattle.old_bytes.specs.Bytes.{old_bytes}
 use Rattle.to_old.specs.declared.Verdict.{Verdict}
 use Rattle.to_old.specs.declared.Verdict.TheVariants.{Accepted, Refused}
-use Rattle.to_old.specs.Tests.{frameVerdict}
+use Rattle.to_old.specs.Tests.{frame_verdict}
 
 -- a case's 116 upper-case digits
-abbrev pub oldLine : Case → List ℕ
-oldLine c = digitsOf (oldBytes (oldCaseOf c))
+abbrev pub old_line : Case → List ℕ
+old_line c = digits_of (old_bytes (old_case_of c))
 
 -- at the start of the area; a refusal leaves the area as it was
-abbrev pub withLine : Verdict → List ℕ → List ℕ
-withLine (Accepted c) area = sets area 0 (oldLine c)
-withLine (Refused r) area = area
+abbrev pub with_line : Verdict → List ℕ → List ℕ
+with_line (Accepted c) area = sets area 0 (old_line c)
+with_line (Refused r) area = area
 
 pub record ToLine (frame before : List ℕ) (v : Verdict) (after : List ℕ) : Type 0 where
-  pub verdict : v ≡ frameVerdict frame (length before)
-  pub area : after ≡ withLine v before
+  pub verdict : v ≡ frame_verdict frame (length before)
+  pub area : after ≡ with_line v before

@@ -8,12 +8,12 @@ use Rattle.limits.specs.declared.Checked.TheVariants.{Sound, Unsound}
 use Rattle.to_old.specs.declared.Refusal.TheVariants.{Faulty}
 use Rattle.to_old.specs.declared.Verdict.{Verdict}
 use Rattle.to_old.specs.declared.Verdict.TheVariants.{Accepted, Refused}
-use Rattle.to_old.specs.Tests.{lastTests, verdictBy}
-use Rattle.to_old.specs.Entry.{withLine}
+use Rattle.to_old.specs.Tests.{last_tests, verdict_by}
+use Rattle.to_old.specs.Entry.{with_line}
 
 -- by tests 19 and 8
 abbrev pub placed : Case → (room : ℕ) → Verdict
-placed c room = verdictBy (first_of (lastTests c room)) c
+placed c room = verdict_by (first_of (last_tests c room)) c
 
 -- what tests 1 to 6 found stands, else those decide
 abbrev pub judged : Checked → (room : ℕ) → Verdict
@@ -26,4 +26,4 @@ Returnable v area = (c : Case) → v ≡ Accepted c → (116 ≤ length area) ×
 
 pub record Returned (v : Verdict) (before : List ℕ) (r : Verdict) (after : List ℕ) : Type 0 where
   pub verdict : r ≡ v
-  pub area : after ≡ withLine r before
+  pub area : after ≡ with_line r before

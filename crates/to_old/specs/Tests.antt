@@ -5,20 +5,20 @@ use Rattle.guidance.specs.declared.Case.{Case}
 use Rattle.guidance.specs.AirPressure.{standard}
 use Rattle.refusals.specs.Order.{Test, ◌when◌, first_of, held}
 use Rattle.fields.specs.Bytes.{fields_of}
-use Rattle.frame.specs.Tests.{frameTests}
+use Rattle.frame.specs.Tests.{frame_tests}
 use Rattle.to_old.specs.declared.Refusal.{Refusal}
 use Rattle.to_old.specs.declared.Refusal.TheVariants.{Faulty, Air, Space}
 use Rattle.to_old.specs.declared.Verdict.{Verdict}
 use Rattle.to_old.specs.declared.Verdict.TheVariants.{Accepted, Refused}
 
 -- 19, if the air pressure is not 10,130; last 8, if the area is shorter than a line's 116 characters
-unfoldable pub lastTests : Case → (room : ℕ) → List (Test Refusal)
-lastTests c room = (Air when not (eqb c.air standard)) ∷ (Space when ltb room 116) ∷ []
+unfoldable pub last_tests : Case → (room : ℕ) → List (Test Refusal)
+last_tests c room = (Air when not (eqb c.air standard)) ∷ (Space when ltb room 116) ∷ []
 
 -- the first test that applies refuses the frame; a frame to which none applies is accepted
-abbrev pub verdictBy : Option Refusal → Case → Verdict
-verdictBy none c = Accepted c
-verdictBy (some r) c = Refused r
+abbrev pub verdict_by : Option Refusal → Case → Verdict
+verdict_by none c = Accepted c
+verdict_by (some r) c = Refused r
 
-unfoldable pub frameVerdict : (frame : List ℕ) (room : ℕ) → Verdict
-frameVerdict frame room = verdictBy (first_of (held Faulty (frameTests frame) ++ lastTests (fields_of frame) room)) (fields_of frame)
+unfoldable pub frame_verdict : (frame : List ℕ) (room : ℕ) → Verdict
+frame_verdict frame room = verdict_by (first_of (held Faulty (frame_tests frame) ++ last_tests (fields_of frame) room)) (fields_of frame)

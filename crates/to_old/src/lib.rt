@@ -4,7 +4,7 @@ ghost use Rattle.std.proofs.lemmas.List.Edits.{sets};
 ghost use Rattle.guidance.specs.Cases.{Fields};
 ghost use Rattle.refusals.specs.Faults.{filled};
 ghost use Rattle.to_old.specs.Refusals.{number, code, word};
-ghost use Rattle.to_old.specs.Entry.{oldLine, ToLine};
+ghost use Rattle.to_old.specs.Entry.{old_line, ToLine};
 ghost use Rattle.to_old.specs.Steps.{placed, judged, Returnable, Returned};
 
 use guidance::Case;
@@ -86,7 +86,7 @@ fn judge(s: Checked, room: usize) -> Verdict
 // The old line of a case, into the area's first 116 bytes.
 fn write_line(area: &mut [u8], c: Case)
     requires { (116 ≤ length area.old) × Fields c }
-    ensures { area.new ≡ sets area.old 0 (oldLine c) }
+    ensures { area.new ≡ sets area.old 0 (old_line c) }
 {
     let o = old_case::of_case(c);
     let mut s = [0u8; 58];

@@ -12,51 +12,51 @@ use Rattle.places.specs.declared.Place.{Place}
 use Rattle.places.specs.declared.Places.{Places}
 use Rattle.places.specs.Holes.{added}
 use Rattle.places.specs.Places.{holds, contents, stands_for}
-use Rattle.places.specs.laws.Trims.{trim-take-hole}
+use Rattle.places.specs.laws.Trims.{trim_take_hole}
 use Rattle.places.specs.laws.Contents.{holds_at, sized}
 use Rattle.totals.specs.declared.Totals.{Totals}
-use Rattle.totals.specs.Totals.{totalsOf}
-use Rattle.totals.specs.Keeping.{including, includingAny}
-use Rattle.totals.specs.laws.Counts.{count-length}
-use Rattle.totals.specs.laws.Trims.{totals-trim}
-use Rattle.totals.specs.laws.Changes.{totals-added}
+use Rattle.totals.specs.Totals.{totals_of}
+use Rattle.totals.specs.Keeping.{including, including_any}
+use Rattle.totals.specs.laws.Counts.{count_length}
+use Rattle.totals.specs.laws.Trims.{totals_trim}
+use Rattle.totals.specs.laws.Changes.{totals_added}
 
 -- t has the totals of the first i places
 pub record Scanned (now : Places) (t : Totals) (i : ℕ) : Type 0 where
   pub size : length now.all ≡ 64
   pub passed : i ≤ 64
-  pub totals : t ≡ totalsOf (take i (contents now))
+  pub totals : t ≡ totals_of (take i (contents now))
 
-pub scan-first : (now : Places) (t : Totals) → length now.all ≡ 64 → t ≡ totalsOf [] → Scanned now t 0
-scan-first now t size e = record { size = size; passed = omega arith; totals = e }
+pub scan_first : (now : Places) (t : Totals) → length now.all ≡ 64 → t ≡ totals_of [] → Scanned now t 0
+scan_first now t size e = record { size = size; passed = omega arith; totals = e }
 
 module _ {now : Places} {t : Totals} {i : ℕ} (q : Scanned now t i) (l : i < 64) where
   abbrev xs : List (Option Held)
   xs = take i (contents now)
 
-  size-so-far : length xs ≡ i
-  size-so-far = length-take-le i (contents now) (omega (arith, sized now q.size))
+  size_so_far : length xs ≡ i
+  size_so_far = length-take-le i (contents now) (omega (arith, sized now q.size))
 
-  pub scan-cases : t.cases < 64
-  unfolding totalsOf
-  scan-cases = omega (arith, ap (λ (u : Totals). u.cases) q.totals, count-length xs, size-so-far)
+  pub scan_cases : t.cases < 64
+  unfolding totals_of
+  scan_cases = omega (arith, ap (λ (u : Totals). u.cases) q.totals, count_length xs, size_so_far)
 
   -- a place more, whatever it holds
-  one_more : (x : Option Held) → get_or (contents now) i none ≡ x → totalsOf (take (i + 1) (contents now)) ≡ includingAny (totalsOf xs) (i + 1) x
+  one_more : (x : Option Held) → get_or (contents now) i none ≡ x → totals_of (take (i + 1) (contents now)) ≡ including_any (totals_of xs) (i + 1) x
   unfolding added
   one_more none e =
-      rw (add-one i) (sym (totals-trim (take (suc i) (contents now))) ∙ ap totalsOf (trim-take-hole (contents now) i e) ∙ totals-trim xs)
+      rw (add-one i) (sym (totals_trim (take (suc i) (contents now))) ∙ ap totals_of (trim_take_hole (contents now) i e) ∙ totals_trim xs)
   one_more (some h) e =
       let longer : take (i + 1) (contents now) ≡ xs ++ (some h ∷ [])
       = rw (add-one i, ← e) (take-suc (contents now) i none (omega (arith, sized now q.size))) in
-      ap totalsOf longer ∙ totals-added xs h ∙ ap (λ (n : ℕ). including (totalsOf xs) (n + 1) h.upper) size-so-far
+      ap totals_of longer ∙ totals_added xs h ∙ ap (λ (n : ℕ). including (totals_of xs) (n + 1) h.upper) size_so_far
 
-  pub scan-again : (d : Place) (r : Totals) → r ≡ includingAny t (i + 1) (holds (get_or now.all i d)) → Scanned now r (i + 1)
-  scan-again d r e =
+  pub scan_again : (d : Place) (r : Totals) → r ≡ including_any t (i + 1) (holds (get_or now.all i d)) → Scanned now r (i + 1)
+  scan_again d r e =
       let read = holds_at now.all i d (omega (arith, q.size)) in
       record { size = q.size; passed = omega arith; totals = e ∙ rw q.totals (sym (one_more (holds (get_or now.all i d)) read)) }
 
-pub scan-last : {now : Places} {t : Totals} {i : ℕ} → Scanned now t i → 64 ≤ i → t ≡ totalsOf (stands_for now)
+pub scan_last : {now : Places} {t : Totals} {i : ℕ} → Scanned now t i → 64 ≤ i → t ≡ totals_of (stands_for now)
 unfolding stands_for
-scan-last {now} {t} {i} q l =
-    q.totals ∙ ap totalsOf (take_all i (contents now) (omega (arith, sized now q.size))) ∙ sym (totals-trim (contents now))
+scan_last {now} {t} {i} q l =
+    q.totals ∙ ap totals_of (take_all i (contents now) (omega (arith, sized now q.size))) ∙ sym (totals_trim (contents now))

@@ -5,7 +5,7 @@ use Rattle.places.specs.declared.Held.{Held}
 use Rattle.places.specs.declared.Places.{Places}
 use Rattle.places.specs.Places.{stands_for}
 use Rattle.totals.specs.declared.Totals.{Totals}
-use Rattle.totals.specs.Totals.{totalsOf}
+use Rattle.totals.specs.Totals.{totals_of}
 
 -- with one case more, behind the others
 unfoldable pub including : Totals → (place upper : ℕ) → Totals
@@ -15,9 +15,9 @@ including t k u =
     (record { cases = t.cases + 1; greatest = t.greatest; place = t.place })
 
 -- with what the next place holds
-abbrev pub includingAny : Totals → (place : ℕ) → Option Held → Totals
-includingAny t k none = t
-includingAny t k (some h) = including t k h.upper
+abbrev pub including_any : Totals → (place : ℕ) → Option Held → Totals
+including_any t k none = t
+including_any t k (some h) = including t k h.upper
 
 -- without a case that is not the one shown; 0 - 1 is 0
 abbrev pub excluding : Totals → Totals
@@ -25,8 +25,8 @@ excluding t = record { cases = t.cases - 1; greatest = t.greatest; place = t.pla
 
 -- after a case came, where a count that cannot be is worked afresh; and after one went
 
-unfoldable pub afterAdding : Totals → (now : Places) (place : ℕ) → Held → Totals
-afterAdding t now k h = cond (ltb t.cases 64) (including t k h.upper) (totalsOf (stands_for now))
+unfoldable pub after_adding : Totals → (now : Places) (place : ℕ) → Held → Totals
+after_adding t now k h = cond (ltb t.cases 64) (including t k h.upper) (totals_of (stands_for now))
 
-unfoldable pub afterWithdrawing : Totals → (now : Places) (place : ℕ) → Totals
-afterWithdrawing t now k = cond (eqb t.place k) (totalsOf (stands_for now)) (excluding t)
+unfoldable pub after_withdrawing : Totals → (now : Places) (place : ℕ) → Totals
+after_withdrawing t now k = cond (eqb t.place k) (totals_of (stands_for now)) (excluding t)

@@ -21,10 +21,10 @@ greatest (none ∷ xs) = greatest xs
 greatest (some h ∷ xs) = greater h.upper (greatest xs)
 
 -- the first place whose case has this upper ΔP, with so many places ahead of the list; 0 for none
-unfoldable pub firstWith : (upper ahead : ℕ) → List (Option Held) → ℕ
-firstWith u k [] = 0
-firstWith u k (none ∷ xs) = firstWith u (suc k) xs
-firstWith u k (some h ∷ xs) = cond (eqb h.upper u) (suc k) (firstWith u (suc k) xs)
+unfoldable pub first_with : (upper ahead : ℕ) → List (Option Held) → ℕ
+first_with u k [] = 0
+first_with u k (none ∷ xs) = first_with u (suc k) xs
+first_with u k (some h ∷ xs) = cond (eqb h.upper u) (suc k) (first_with u (suc k) xs)
 
-unfoldable pub totalsOf : List (Option Held) → Totals
-totalsOf xs = record { cases = count xs; greatest = greatest xs; place = firstWith (greatest xs) 0 xs }
+unfoldable pub totals_of : List (Option Held) → Totals
+totals_of xs = record { cases = count xs; greatest = greatest xs; place = first_with (greatest xs) 0 xs }

@@ -2,8 +2,8 @@
 // Right totals are kept right as a case comes or goes.
 ghost use Rattle.std.specs.Prelude.{◌<◌, ◌≡◌, []};
 ghost use Rattle.places.specs.Places.{holds, stands_for};
-ghost use Rattle.totals.specs.Totals.{totalsOf};
-ghost use Rattle.totals.specs.Keeping.{including, includingAny, afterAdding, afterWithdrawing};
+ghost use Rattle.totals.specs.Totals.{totals_of};
+ghost use Rattle.totals.specs.Keeping.{including, including_any, after_adding, after_withdrawing};
 
 use places::{Content, Held, Place, Places};
 
@@ -18,7 +18,7 @@ pub struct Totals {
 
 // The totals worked from the places.
 pub fn afresh(now: Places) -> Totals
-    ensures { result ≡ totalsOf (stands_for now) }
+    ensures { result ≡ totals_of (stands_for now) }
 {
     let mut t = Totals::none();
     for i in 0..64 {
@@ -31,7 +31,7 @@ pub fn afresh(now: Places) -> Totals
 impl Totals {
     // Of an empty sheet.
     pub fn none() -> Self
-        ensures { result ≡ totalsOf [] }
+        ensures { result ≡ totals_of [] }
     {
         Totals {
             cases: 0,
@@ -70,7 +70,7 @@ impl Totals {
     // With what the next place holds.
     fn with_place(self, place: usize, p: Place) -> Self
         requires { self.cases < 64 }
-        ensures { result ≡ includingAny self place (holds p) }
+        ensures { result ≡ including_any self place (holds p) }
     {
         let content = p.content;
         match content {
@@ -81,7 +81,7 @@ impl Totals {
 
     // A case was added at a place behind the others.
     pub fn after_adding(self, now: Places, place: usize, h: Held) -> Self
-        ensures { result ≡ afterAdding self now place h }
+        ensures { result ≡ after_adding self now place h }
     {
         if self.cases < 64 {
             self.with_end(place, h.upper)
@@ -92,7 +92,7 @@ impl Totals {
 
     // The case at a place was withdrawn: the greatest stays unless it was the one shown.
     pub fn after_withdrawing(self, now: Places, place: usize) -> Self
-        ensures { result ≡ afterWithdrawing self now place }
+        ensures { result ≡ after_withdrawing self now place }
     {
         if self.place == place {
             return afresh(now);

@@ -9,7 +9,7 @@ use borrow.Author.Tests.{eq-eqb, ne_eqb}
 use Rattle.scan.specs.declared.Word.{Word}
 use Rattle.scan.specs.Words.{word_at}
 use Rattle.vectors.specs.Figures.{right}
-use Rattle.vectors.specs.Judging.{afterWords, sameFrom, figuresRight}
+use Rattle.vectors.specs.Judging.{after_words, same_from, figures_right}
 
 -- of n, one more than those before the next is left
 one_left : {n i : ℕ} → i < n → n - i ≡ suc (n - (i + 1))
@@ -21,75 +21,75 @@ none_left h = omega arith
 -- i of seven words are passed
 pub record Passing (text : List ℕ) (from i at : ℕ) : Type 0 where
   pub within : at ≤ length text
-  pub rest : afterWords 7 text from ≡ afterWords (7 - i) text at
+  pub rest : after_words 7 text from ≡ after_words (7 - i) text at
 
-pub pass-first : (text : List ℕ) (from : ℕ) → from ≤ length text → Passing text from 0 from
-pass-first text from h = record { within = h; rest = refl }
+pub pass_first : (text : List ℕ) (from : ℕ) → from ≤ length text → Passing text from 0 from
+pass_first text from h = record { within = h; rest = refl }
 
 module _ {text : List ℕ} {from i at : ℕ} (c : Passing text from i at) where
-  pub pass-again : {next : ℕ} → i < 7 → next ≡ (word_at text at).next → next ≤ length text → Passing text from (i + 1) next
-  unfolding afterWords
-  pass-again h e within =
+  pub pass_again : {next : ℕ} → i < 7 → next ≡ (word_at text at).next → next ≤ length text → Passing text from (i + 1) next
+  unfolding after_words
+  pass_again h e within =
       record {
         within = within;
-        rest = c.rest ∙ ap (λ (k : ℕ). afterWords k text at) (one_left h) ∙ ap (afterWords (7 - (i + 1)) text) (sym e);
+        rest = c.rest ∙ ap (λ (k : ℕ). after_words k text at) (one_left h) ∙ ap (after_words (7 - (i + 1)) text) (sym e);
       }
 
-  pub pass-last : 7 ≤ i → at ≡ afterWords 7 text from
-  unfolding afterWords
-  pass-last h = sym (c.rest ∙ ap (λ (k : ℕ). afterWords k text at) (none_left h))
+  pub pass_last : 7 ≤ i → at ≡ after_words 7 text from
+  unfolding after_words
+  pass_last h = sym (c.rest ∙ ap (λ (k : ℕ). after_words k text at) (none_left h))
 
 -- the bytes of two areas before a place are the same
 pub record Alike (a b : List ℕ) (from at : ℕ) : Type 0 where
   pub within : at ≤ 80
-  pub rest : sameFrom (80 - from) from a b ≡ sameFrom (80 - at) at a b
+  pub rest : same_from (80 - from) from a b ≡ same_from (80 - at) at a b
 
-pub alike-first : (a b : List ℕ) (from : ℕ) → from ≤ 80 → Alike a b from from
-alike-first a b from h = record { within = h; rest = refl }
+pub alike_first : (a b : List ℕ) (from : ℕ) → from ≤ 80 → Alike a b from from
+alike_first a b from h = record { within = h; rest = refl }
 
 module _ {a b : List ℕ} {from at : ℕ} (c : Alike a b from at) where
-  pub alike-again : at < 80 → get_or a at 0 ≡ get_or b at 0 → Alike a b from (at + 1)
-  unfolding sameFrom
-  alike-again h e =
+  pub alike_again : at < 80 → get_or a at 0 ≡ get_or b at 0 → Alike a b from (at + 1)
+  unfolding same_from
+  alike_again h e =
       record {
         within = omega arith;
-        rest = c.rest ∙ ap (λ (k : ℕ). sameFrom k at a b) (one_left h) ∙ simp (eq-eqb _ _ e);
+        rest = c.rest ∙ ap (λ (k : ℕ). same_from k at a b) (one_left h) ∙ simp (eq-eqb _ _ e);
       }
 
-  pub alike-not : at < 80 → (get_or a at 0 ≡ get_or b at 0 → ⊥) → false ≡ sameFrom (80 - from) from a b
-  unfolding sameFrom
-  alike-not h e = sym (c.rest ∙ ap (λ (k : ℕ). sameFrom k at a b) (one_left h) ∙ simp (ne_eqb _ _ e))
+  pub alike_not : at < 80 → (get_or a at 0 ≡ get_or b at 0 → ⊥) → false ≡ same_from (80 - from) from a b
+  unfolding same_from
+  alike_not h e = sym (c.rest ∙ ap (λ (k : ℕ). same_from k at a b) (one_left h) ∙ simp (ne_eqb _ _ e))
 
-  pub alike-last : 80 ≤ at → true ≡ sameFrom (80 - from) from a b
-  unfolding sameFrom
-  alike-last h = sym (c.rest ∙ ap (λ (k : ℕ). sameFrom k at a b) (none_left h))
+  pub alike_last : 80 ≤ at → true ≡ same_from (80 - from) from a b
+  unfolding same_from
+  alike_last h = sym (c.rest ∙ ap (λ (k : ℕ). same_from k at a b) (none_left h))
 
 -- i of seven figures are right
 pub record Right (text : List ℕ) (from : ℕ) (area table : List ℕ) (i at : ℕ) : Type 0 where
   pub within : at ≤ length text
-  pub rest : figuresRight 7 0 text from area table ≡ figuresRight (7 - i) i text at area table
+  pub rest : figures_right 7 0 text from area table ≡ figures_right (7 - i) i text at area table
 
-pub right-first : (text : List ℕ) (from : ℕ) (area table : List ℕ) → from ≤ length text → Right text from area table 0 from
-right-first text from area table h = record { within = h; rest = refl }
+pub right_first : (text : List ℕ) (from : ℕ) (area table : List ℕ) → from ≤ length text → Right text from area table 0 from
+right_first text from area table h = record { within = h; rest = refl }
 
 module _ {text : List ℕ} {from : ℕ} {area table : List ℕ} {i at : ℕ} (c : Right text from area table i at) where
   -- the next word, and whether its figure is right
   module _ {w : Word} {answer : Bool} (h : i < 7) (e : w ≡ word_at text at) (r : answer ≡ right area i w.lead w.value table) where
-    pub right-again : answer ≡ true → w.next ≤ length text → Right text from area table (i + 1) w.next
-    unfolding figuresRight
-    right-again t within =
+    pub right_again : answer ≡ true → w.next ≤ length text → Right text from area table (i + 1) w.next
+    unfolding figures_right
+    right_again t within =
         let good : right area i (word_at text at).lead (word_at text at).value table ≡ true = cc in
         record {
           within = within;
-          rest = c.rest ∙ ap (λ (k : ℕ). figuresRight k i text at area table) (one_left h) ∙ simp (good, e);
+          rest = c.rest ∙ ap (λ (k : ℕ). figures_right k i text at area table) (one_left h) ∙ simp (good, e);
         }
 
-    pub right-not : answer ≡ false → false ≡ figuresRight 7 0 text from area table
-    unfolding figuresRight
-    right-not f =
+    pub right_not : answer ≡ false → false ≡ figures_right 7 0 text from area table
+    unfolding figures_right
+    right_not f =
         let bad : right area i (word_at text at).lead (word_at text at).value table ≡ false = cc in
-        sym (c.rest ∙ ap (λ (k : ℕ). figuresRight k i text at area table) (one_left h) ∙ simp bad)
+        sym (c.rest ∙ ap (λ (k : ℕ). figures_right k i text at area table) (one_left h) ∙ simp bad)
 
-  pub right-last : 7 ≤ i → true ≡ figuresRight 7 0 text from area table
-  unfolding figuresRight
-  right-last h = sym (c.rest ∙ ap (λ (k : ℕ). figuresRight k i text at area table) (none_left h))
+  pub right_last : 7 ≤ i → true ≡ figures_right 7 0 text from area table
+  unfolding figures_right
+  right_last h = sym (c.rest ∙ ap (λ (k : ℕ). figures_right k i text at area table) (none_left h))

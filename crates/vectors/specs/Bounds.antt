@@ -1,15 +1,15 @@
 -- A figure of an answer between two numbers of the data, as document 01 calls it near or a paper prints it.
 use Rattle.std.specs.Prelude.{ℕ, ◌+◌, ◌*◌, Bool, false, ◌&&◌, cond, List, eqb, leb, ltb}
-use Rattle.bytes.specs.Numbers.{twoAt, fourAt}
+use Rattle.bytes.specs.Numbers.{two_at, four_at}
 use Rattle.scan.specs.declared.Word.{Word}
 use Rattle.scan.specs.Words.{word_at}
 use Rattle.vectors.specs.declared.bounds.Held.{Held}
-use Rattle.vectors.specs.Figures.{raisedWord, raised}
+use Rattle.vectors.specs.Figures.{raised_word, raised}
 
 -- an end of the i-th of an answer's twelve figures, raised by 200,000: pressure, impulse, five probits in thousandths, five damages in tenths of a percent.
 -- The first seven stand in four bytes from `word` on, the others in two from `half` on
 unfoldable pub end_at : (area : List ℕ) (i word half : ℕ) → ℕ
-end_at area i word half = cond (ltb i 7) (raisedWord (fourAt area (word + 8 * i))) (200000 + twoAt area (half + 4 * i))
+end_at area i word half = cond (ltb i 7) (raised_word (four_at area (word + 8 * i))) (200000 + two_at area (half + 4 * i))
 
 -- two raised ends lie between the numbers of two words
 unfoldable pub between : (lower upper : ℕ) (least most : Word) → Bool

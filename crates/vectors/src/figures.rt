@@ -1,7 +1,7 @@
 // The figures of an answer frame, held against the values of the data.
 ghost use Rattle.std.specs.Prelude.{◌≡◌, ◌&&◌, ◌+◌, ◌≤◌, ◌<◌};
 ghost use Rattle.scan.specs.Words.{largest};
-ghost use Rattle.vectors.specs.Figures.{contained, closed, waveRight, raisedWord, raised as Figures·raised, probitRight, reached, rank, tenthsAt, damageRight, right};
+ghost use Rattle.vectors.specs.Figures.{contained, closed, wave_right, raised_word, raised as Figures·raised, probit_right, reached, rank, tenths_at, damage_right, right};
 
 pub(crate) fn both(a: bool, b: bool) -> bool
     ensures { result ≡ (a && b) }
@@ -37,7 +37,7 @@ fn is_closed(lower: u64, upper: u64) -> bool
 // A pressure or an impulse with twelve places of the value.
 fn is_wave(lower: u64, upper: u64, value: u64) -> bool
     requires { (lower < 4294967296) × (upper < 4294967296) }
-    ensures { result ≡ waveRight lower upper value }
+    ensures { result ≡ wave_right lower upper value }
 {
     let inside = contains(lower, upper, value, 1000000000000);
     both(inside, is_closed(lower, upper))
@@ -46,7 +46,7 @@ fn is_wave(lower: u64, upper: u64, value: u64) -> bool
 // A word in two's complement, and 200,000 more, so that a probit's thousandths are never below zero.
 pub(crate) fn raised_word(w: u64) -> u64
     requires { w < 4294967296 }
-    ensures { (result ≡ raisedWord w) × (result < 4295167296) }
+    ensures { (result ≡ raised_word w) × (result < 4295167296) }
 {
     if w < 2147483648 {
         return w + 200000;
@@ -71,7 +71,7 @@ pub(crate) fn raised(base: u64, lead: u8, value: u64) -> u64
 // A probit with nine places of its raised thousandths.
 fn is_probit(lower: u64, upper: u64, value: u64) -> bool
     requires { lower < 4295167296 }
-    ensures { result ≡ probitRight lower upper value }
+    ensures { result ≡ probit_right lower upper value }
 {
     let inside = contains(lower, upper, value, 1000000000);
     both(inside, upper <= lower + 2)
@@ -102,14 +102,14 @@ fn rank_at(table: &[u64; 216], probit: u64) -> usize
 
 fn tenths_at(table: &[u64; 216], n: usize) -> u64
     requires { n ≤ 108 }
-    ensures { result ≡ tenthsAt table.now n }
+    ensures { result ≡ tenths_at table.now n }
 {
     if n == 0 { 0 } else { table[2 * n - 2] }
 }
 
 // Whether two damages are the table's readings at a probit's raised ends.
 fn is_damage(first: u64, second: u64, lower: u64, upper: u64, table: &[u64; 216]) -> bool
-    ensures { result ≡ damageRight first second lower upper table.now }
+    ensures { result ≡ damage_right first second lower upper table.now }
 {
     let low = first == tenths_at(table, rank_at(table, lower));
     let high = second == tenths_at(table, rank_at(table, upper));

@@ -1,6 +1,6 @@
 // A vector of the separate calculation, and what its line's and its frame's answer show.
 ghost use Rattle.std.specs.Prelude.{◌≡◌, ◌||◌, cond, ◌-◌, ◌≤◌, length};
-ghost use Rattle.vectors.specs.Judging.{afterWords, vectorOf, sameFrom, figuresRight, acceptedRight, refusedRight, answerRight, alike, found, findingOf, Read};
+ghost use Rattle.vectors.specs.Judging.{after_words, vector_of, same_from, figures_right, accepted_right, refused_right, answer_right, alike, found, finding_of, Read};
 
 use crate::figures;
 use crate::figures::both;
@@ -38,7 +38,7 @@ fn either(a: bool, b: bool) -> bool
 // The place after the seven values that start at `from`.
 fn after_values(text: &[u8], from: usize) -> usize
     requires { from ≤ length text.now }
-    ensures { (result ≡ afterWords 7 text.now from) × (result ≤ length text.now) }
+    ensures { (result ≡ after_words 7 text.now from) × (result ≤ length text.now) }
 {
     let mut at = from;
     let mut i: usize = 0;
@@ -58,7 +58,7 @@ fn room_of(value: u64) -> usize
 
 fn line_at(text: &[u8], accepted: bool, from: usize) -> usize
     requires { from ≤ length text.now }
-    ensures { (result ≡ cond accepted (afterWords 7 text.now from) from) × (result ≤ length text.now) }
+    ensures { (result ≡ cond accepted (after_words 7 text.now from) from) × (result ≤ length text.now) }
 {
     if accepted {
         after_values(text, from)
@@ -87,7 +87,7 @@ pub fn vector_of(text: &[u8]) -> Vector
 // Whether two areas have the same bytes from `from` on.
 fn is_same(a: &[u8; 80], b: &[u8; 80], from: usize) -> bool
     requires { from ≤ 80 }
-    ensures { result ≡ sameFrom (80 - from) from a.now b.now }
+    ensures { result ≡ same_from (80 - from) from a.now b.now }
 {
     let mut at = from;
     while at < 80 {
@@ -102,7 +102,7 @@ fn is_same(a: &[u8; 80], b: &[u8; 80], from: usize) -> bool
 // Whether the seven figures are right by the seven values that start at `from`.
 fn are_right(text: &[u8], from: usize, area: &[u8; 80], table: &[u64; 216]) -> bool
     requires { from ≤ length text.now }
-    ensures { result ≡ figuresRight 7 0 text.now from area.now table.now }
+    ensures { result ≡ figures_right 7 0 text.now from area.now table.now }
 {
     let mut at = from;
     let mut i = 0;
@@ -127,7 +127,7 @@ fn is_accepted(
     table: &[u64; 216],
 ) -> bool
     requires { from ≤ length text.now }
-    ensures { result ≡ acceptedRight text.now from range given area.now table.now }
+    ensures { result ≡ accepted_right text.now from range given area.now table.now }
 {
     let kept = is_same(area, &[FILL; 80], 77);
     let figures = are_right(text, from, area, table);
@@ -137,7 +137,7 @@ fn is_accepted(
 
 // A case that is to be refused by a number.
 fn is_refused(number: u64, given: u64, area: &[u8; 80]) -> bool
-    ensures { result ≡ refusedRight number given area.now }
+    ensures { result ≡ refused_right number given area.now }
 {
     let kept = is_same(area, &[FILL; 80], 0);
     both(given == number, kept)
@@ -145,7 +145,7 @@ fn is_refused(number: u64, given: u64, area: &[u8; 80]) -> bool
 
 fn is_right(text: &[u8], v: Vector, given: u64, area: &[u8; 80], table: &[u64; 216]) -> bool
     requires { v.values ≤ length text.now }
-    ensures { result ≡ answerRight text.now v given area.now table.now }
+    ensures { result ≡ answer_right text.now v given area.now table.now }
 {
     if v.accepted {
         is_accepted(text, v.values, v.number, given, area, table)
@@ -181,7 +181,7 @@ pub fn judge(
     other: &[u8; 80],
     table: &[u64; 216],
 ) -> Finding
-    ensures { result ≡ findingOf text.now given area.now framed other.now table.now }
+    ensures { result ≡ finding_of text.now given area.now framed other.now table.now }
 {
     let v = vector_of(text);
     let right = is_right(text, v, given, area, table);

@@ -8,7 +8,7 @@ use Rattle.span.specs.Enclosing.{Encloses}
 use Rattle.fixed.specs.declared.Log.{Log}
 use Rattle.fixed.specs.Logs.{dn, Ordered, Narrow, Small, LogEncloses}
 use Rattle.enclosure.specs.Promises.{enough}
-use Rattle.guidance.specs.Waves.{gasPressure, gasImpulse}
+use Rattle.guidance.specs.Waves.{gas_pressure, gas_impulse}
 use Rattle.waves.specs.EndBounds.{UpperAtLeast}
 
 -- ln R within -5 and 5, and narrow
@@ -32,7 +32,7 @@ pub record LogDistance (r : Span) (l : Log) : Type 0 where
 -- Px, up to 2^7
 pub record GasPressure (l : Log) (s : Span) : Type 0 where
   pub normal : Normal s
-  pub encloses : (x : Formula) (n : ℕ) → enough ≤ n → LogEncloses l (ln x) n → Encloses s (gasPressure x) n
+  pub encloses : (x : Formula) (n : ℕ) → enough ≤ n → LogEncloses l (ln x) n → Encloses s (gas_pressure x) n
   pub width : (W : ℕ) → Narrow l W → Width s (5 * W + 55)
   pub least : 977 ≤ s.e
   pub most : s.e ≤ 1000
@@ -40,7 +40,7 @@ pub record GasPressure (l : Log) (s : Span) : Type 0 where
 -- Ix, up to 2^5
 pub record GasImpulse (l : Log) (s : Span) : Type 0 where
   pub normal : Normal s
-  pub encloses : (x : Formula) (n : ℕ) → enough ≤ n → LogEncloses l (ln x) n → Encloses s (gasImpulse x) n
+  pub encloses : (x : Formula) (n : ℕ) → enough ≤ n → LogEncloses l (ln x) n → Encloses s (gas_impulse x) n
   pub width : (W : ℕ) → Narrow l W → Width s (2 * W + 34)
   pub least : 979 ≤ s.e
   pub most : s.e ≤ 998

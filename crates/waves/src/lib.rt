@@ -1,7 +1,7 @@
 // The wave formulas on intervals: reduced pressure and impulse of detonation and deflagration over the reduced distance R.
 // Each function follows its formula operation by operation.
 ghost use Rattle.exact.specs.Fraction.{whole};
-ghost use Rattle.guidance.specs.Waves.{number, rangeEnd, slowFront, frontSpeedOf};
+ghost use Rattle.guidance.specs.Waves.{number, range_end, slow_front, front_speed_of};
 ghost use Rattle.waves.specs.Detonation.{Distance, AerosolPressure, AerosolImpulse};
 ghost use Rattle.waves.specs.Gas.{Logged, Near, LogDistance, GasPressure, GasImpulse};
 ghost use Rattle.waves.specs.Fronts.{Mass, SixthRoot, Factor, Front};
@@ -159,7 +159,7 @@ fn factor(range: u64) -> Span
 
 // The speed that closes ranges 2, 3 and 4, in m/s.
 fn range_end(range: u64) -> Span
-    ensures { Front (number (whole (rangeEnd range))) result }
+    ensures { Front (number (whole (range_end range))) result }
 {
     if range == 2 {
         coefficients::FRONT_500
@@ -175,7 +175,7 @@ fn range_end(range: u64) -> Span
 // The front speed of ranges 5 and 6: by the mass, but never faster than the end of range 4.
 fn slow_front(range: u64, mass: u64) -> Span
     requires { Mass mass }
-    ensures { Front (slowFront range mass) result }
+    ensures { Front (slow_front range mass) result }
 {
     let f = factor(range);
     let root = sixth_root(mass);
@@ -187,7 +187,7 @@ fn slow_front(range: u64, mass: u64) -> Span
 // The front speed V of ranges 2 to 6, in m/s.
 pub fn front_speed(range: u64, mass: u64) -> Span
     requires { Mass mass }
-    ensures { Front (frontSpeedOf range mass) result }
+    ensures { Front (front_speed_of range mass) result }
 {
     if range < 5 {
         range_end(range)

@@ -14,9 +14,9 @@ placed (Sound c) needed room = cond (ltb room (needed c)) (Refused Space) (Accep
 placed (Unsound f) needed room = Refused (Faulty f)
 
 -- the bytes that are needed for the text of a case which passed its own tests; a fault needs none
-abbrev pub neededFor : (text : Case → List ℕ) → Checked → ℕ
-neededFor text (Sound c) = length (text c)
-neededFor text (Unsound f) = 0
+abbrev pub needed_for : (text : Case → List ℕ) → Checked → ℕ
+needed_for text (Sound c) = length (text c)
+needed_for text (Unsound f) = 0
 
 abbrev pub Written : (text : Case → List ℕ) (s : Checked) (before : List ℕ) (v : Verdict) (after : List ℕ) → Type 0
 Written text s before = Writes text (placed s (λ (c : Case). length (text c)) (length before)) before

@@ -10,14 +10,14 @@ use Rattle.writable.specs.declared.Verdict.{Verdict}
 use Rattle.writable.specs.declared.Verdict.TheVariants.{Accepted, Refused}
 
 -- 8 if the area is shorter than what is written
-unfoldable pub writableTests : List (Test Fault) → (needed room : ℕ) → List (Test Refusal)
-writableTests tests needed room = held Faulty tests ++ (Space when ltb room needed) ∷ []
+unfoldable pub writable_tests : List (Test Fault) → (needed room : ℕ) → List (Test Refusal)
+writable_tests tests needed room = held Faulty tests ++ (Space when ltb room needed) ∷ []
 
 -- the first test that applies refuses the case; a case to which none applies is accepted
-abbrev pub verdictBy : Option Refusal → Case → Verdict
-verdictBy none c = Accepted c
-verdictBy (some r) c = Refused r
+abbrev pub verdict_by : Option Refusal → Case → Verdict
+verdict_by none c = Accepted c
+verdict_by (some r) c = Refused r
 
 -- the verdict on a case with its own tests, of which `text` is to be written
-unfoldable pub writableVerdict : (text : Case → List ℕ) (tests : List (Test Fault)) (c : Case) (room : ℕ) → Verdict
-writableVerdict text tests c room = verdictBy (first_of (writableTests tests (length (text c)) room)) c
+unfoldable pub writable_verdict : (text : Case → List ℕ) (tests : List (Test Fault)) (c : Case) (room : ℕ) → Verdict
+writable_verdict text tests c room = verdict_by (first_of (writable_tests tests (length (text c)) room)) c

@@ -6,10 +6,10 @@ use Rattle.writable.specs.declared.Verdict.{Verdict}
 use Rattle.writable.specs.declared.Verdict.TheVariants.{Accepted, Refused}
 
 -- an accepted case's text at the start of the area; a refusal leaves the area as it was
-abbrev pub withText : (text : Case → List ℕ) → Verdict → List ℕ → List ℕ
-withText text (Accepted c) area = sets area 0 (text c)
-withText text (Refused r) area = area
+abbrev pub with_text : (text : Case → List ℕ) → Verdict → List ℕ → List ℕ
+with_text text (Accepted c) area = sets area 0 (text c)
+with_text text (Refused r) area = area
 
 pub record Writes (text : Case → List ℕ) (due : Verdict) (before : List ℕ) (v : Verdict) (after : List ℕ) : Type 0 where
   pub verdict : v ≡ due
-  pub area : after ≡ withText text v before
+  pub area : after ≡ with_text text v before

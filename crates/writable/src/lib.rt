@@ -2,8 +2,8 @@
 ghost use Rattle.std.specs.Prelude.{◌≡◌};
 ghost use Rattle.refusals.specs.Faults.{filled};
 ghost use Rattle.writable.specs.Refusals.{number, code, word};
-ghost use Rattle.fields.specs.Bytes.{frameBytes};
-ghost use Rattle.writable.specs.Steps.{placed, neededFor, Written};
+ghost use Rattle.fields.specs.Bytes.{frame_bytes};
+ghost use Rattle.writable.specs.Steps.{placed, needed_for, Written};
 
 use guidance::Case;
 use limits::Checked;
@@ -69,7 +69,7 @@ pub fn place(s: Checked, needed: usize, room: usize) -> Verdict
 
 // The bytes of the frame of a case that passed its own tests.
 fn frame_size(s: Checked) -> usize
-    ensures { result ≡ neededFor frameBytes s }
+    ensures { result ≡ needed_for frame_bytes s }
 {
     match s {
         Checked::Sound(c) => fields::size_of(c),
@@ -79,7 +79,7 @@ fn frame_size(s: Checked) -> usize
 
 // The frame of a case that passed its own tests, into the area's first bytes.
 pub fn write_frame(s: Checked, area: &mut [u8]) -> Verdict
-    ensures { Written frameBytes s area.old result area.new }
+    ensures { Written frame_bytes s area.old result area.new }
 {
     let v = place(s, frame_size(s), area.len());
     match v {

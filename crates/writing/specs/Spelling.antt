@@ -2,16 +2,16 @@
 use Rattle.std.specs.Prelude.{ℕ, ◌≡◌, cond, List, eqb}
 use Rattle.guidance.specs.declared.Case.{Case}
 use Rattle.guidance.specs.Substances.{heat_of}
-use Rattle.hexadecimals.specs.Written.{digitsOf}
-use Rattle.fields.specs.Bytes.{frameBytes}
+use Rattle.hexadecimals.specs.Written.{digits_of}
+use Rattle.fields.specs.Bytes.{frame_bytes}
 
 -- the table's heat is the effective one where none is given; without β it is 0, and no accepted case has heat 0 then
-unfoldable pub spelledHeat : (substance given : ℕ) → ℕ
-spelledHeat substance given = cond (eqb given (heat_of substance 0)) 0 given
+unfoldable pub spelled_heat : (substance given : ℕ) → ℕ
+spelled_heat substance given = cond (eqb given (heat_of substance 0)) 0 given
 
 -- the case as it is spelled
-unfoldable pub asSpelled : Case → Case
-asSpelled c =
+unfoldable pub as_spelled : Case → Case
+as_spelled c =
     record {
       substance = c.substance;
       state = c.state;
@@ -20,14 +20,14 @@ asSpelled c =
       mass = c.mass;
       mean = c.mean;
       stoichiometric = c.stoichiometric;
-      heat = spelledHeat c.substance c.heat;
+      heat = spelled_heat c.substance c.heat;
       distance = c.distance;
       body = c.body;
       air = c.air;
     }
 
 unfoldable pub spelling : Case → List ℕ
-spelling c = digitsOf (frameBytes (asSpelled c))
+spelling c = digits_of (frame_bytes (as_spelled c))
 
 -- two cases that agree: in substance, settings, other quantities and effective heat
 pub record Agree (c d : Case) : Type 0 where

@@ -1,8 +1,8 @@
 // Writing frames: a frame from its fields, and the one spelling of a case.
 ghost use Rattle.std.specs.Prelude.{◌≡◌, ◌≤◌, length};
 ghost use Rattle.std.proofs.lemmas.List.Edits.{sets};
-ghost use Rattle.writable.specs.Steps.{neededFor, Written};
-ghost use Rattle.writing.specs.Spelling.{asSpelled, spelling};
+ghost use Rattle.writable.specs.Steps.{needed_for, Written};
+ghost use Rattle.writing.specs.Spelling.{as_spelled, spelling};
 ghost use Rattle.writing.specs.Entries.{FromFields, SpellsFrame, SpellsLine};
 
 use guidance::Case;
@@ -11,7 +11,7 @@ use writable::Verdict;
 
 // Without a heat of its own if the given one is the table's.
 fn as_spelled(c: Case) -> Case
-    ensures { result ≡ asSpelled c }
+    ensures { result ≡ as_spelled c }
 {
     let mut unheated = c;
     unheated.heat = 0;
@@ -41,7 +41,7 @@ fn put_spelling(area: &mut [u8], c: Case)
 
 // The characters of the spelling of a case that passed its own tests.
 fn spelling_size(s: Checked) -> usize
-    ensures { result ≡ neededFor spelling s }
+    ensures { result ≡ needed_for spelling s }
 {
     match s {
         Checked::Sound(c) => 2 * fields::size_of(c),

@@ -1,5 +1,5 @@
 -- `answer::figures_of` meets its contract: all in the case's own air. Assumes nothing.
-use Rattle.guidance.specs.laws.Domain.{own-air}
+use Rattle.guidance.specs.laws.Domain.{own_air}
 use Rattle.answer.proofs.Numbers.{figures}
 use borrow.Author.Rules.{rules}
 use Rattle.answer.proofs.figures_of.Statement.{statement}
@@ -8,13 +8,13 @@ use Rattle.answer.proofs.figures_of.Tie as tie
 wave-of-requires : tie.Need-wave-of-requires
 wave-of-requires c κs =
     let a = c.before.before.requires in
-    rw c.before.air-of.ensures (record { accepted = a; cloud = c.cloud-of.ensures; pressure = own-air a.fields })
+    rw c.before.air-of.ensures (record { accepted = a; cloud = c.cloud-of.ensures; pressure = own_air a.fields })
 
 probits-of-requires : tie.Need-probits-of-requires
 probits-of-requires c κs =
     let air = c.before.before.before.before in
     let f = air.before.requires.fields in
-    (search rules, rw air.air-of.ensures (record { within = own-air f; least = f.body; most = f.body-most }))
+    (search rules, rw air.air-of.ensures (record { within = own_air f; least = f.body; most = f.body_most }))
 
 returns : tie.Need-returns
 returns c =

@@ -1,6 +1,6 @@
 -- `answer::from_frame` meets its contract. Assumes nothing.
 use mathlib.Core.Path.{◌∙◌}
-use Rattle.answer.proofs.Verdicts.{due-frame}
+use Rattle.answer.proofs.Verdicts.{due_frame}
 use borrow.Author.Rules.{rules}
 use Rattle.answer.proofs.from_frame.Statement.{statement}
 use Rattle.answer.proofs.from_frame.Tie as tie
@@ -11,7 +11,7 @@ decide-frame-requires c κs = search rules
 enter-requires : tie.Need-enter-requires
 enter-requires c κs =
     let start = c.before.before.before.before.args in
-    due-frame start.frame.now start.area.now c.before.decide-frame.ensures
+    due_frame start.frame.now start.area.now c.before.decide-frame.ensures
 
 same_length : tie.Need-same-length
 same_length c = search rules

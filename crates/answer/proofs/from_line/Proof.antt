@@ -1,6 +1,6 @@
 -- `answer::from_line` meets its contract. Assumes nothing.
 use mathlib.Core.Path.{◌∙◌}
-use Rattle.answer.proofs.Verdicts.{due-line}
+use Rattle.answer.proofs.Verdicts.{due_line}
 use borrow.Author.Rules.{rules}
 use Rattle.answer.proofs.from_line.Statement.{statement}
 use Rattle.answer.proofs.from_line.Tie as tie
@@ -11,7 +11,7 @@ decide-line-requires c κs = search rules
 enter-requires : tie.Need-enter-requires
 enter-requires c κs =
     let start = c.before.before.before.before.args in
-    due-line start.line.now start.area.now c.before.decide-line.ensures
+    due_line start.line.now start.area.now c.before.decide-line.ensures
 
 same_length : tie.Need-same-length
 same_length c = search rules

@@ -3,7 +3,7 @@ use mathlib.Core.Path.{ap, ◌∙◌}
 use native.Mathlib.Omega.{arith}
 use lib.Seq.{sets}
 use Rattle.layout.specs.declared.Damages.{Damages}
-use Rattle.layout.specs.Places.{answerBytes}
+use Rattle.layout.specs.Places.{answer_bytes}
 use Rattle.answer.proofs.Writing.{all_fit, wrote}
 use borrow.Author.Rules.{rules}
 use Rattle.answer.proofs.write.Statement.{statement}
@@ -29,7 +29,7 @@ returns c =
     let f = c.before.before.before.before.before.figures-of in
     let d = c.before.before.before.before.readings-of in
     wrote f.ensures start.args.area.now _ start.requires.room
-    (c.before.before.put-answer.ensures ∙ ap (λ (x : Damages). sets start.args.area.now 0 (answerBytes f.result.range f.result.pressure f.result.impulse f.result.probits x)) d.ensures)
+    (c.before.before.put-answer.ensures ∙ ap (λ (x : Damages). sets start.args.area.now 0 (answer_bytes f.result.range f.result.pressure f.result.impulse f.result.probits x)) d.ensures)
 
 pub write_spec : {M : Type 1} → statement M
 write_spec =

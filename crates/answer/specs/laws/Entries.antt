@@ -8,7 +8,7 @@ use Rattle.guidance.specs.declared.Case.{Case}
 use Rattle.damage.specs.Damage.{damage}
 use Rattle.damage.specs.laws.Readings.{Neighbours, neighbours}
 use Rattle.frame.specs.declared.Verdict.{Verdict}
-use Rattle.hexadecimals.specs.Digits.{allDigits, bytes_of}
+use Rattle.hexadecimals.specs.Digits.{all_digits, bytes_of}
 use Rattle.frame.specs.Tests.{either}
 use Rattle.frame.specs.laws.Verdicts.{line_frame}
 use Rattle.layout.specs.declared.Probit.{Probit}
@@ -17,9 +17,9 @@ use Rattle.exact.specs.Between.{whole_z}
 use Rattle.answer.specs.Answer.{ProbitEnds, reading, readings, Answer, FromFrame, FromLine}
 
 -- what is promised of a line of 44 or 48 digits is what is promised of its bytes
-pub line-as-frame : (line before : List ℕ) (v : Verdict) (after : List ℕ) → either 44 48 line ≡ true → allDigits line ≡ true
+pub line_as_frame : (line before : List ℕ) (v : Verdict) (after : List ℕ) → either 44 48 line ≡ true → all_digits line ≡ true
     → FromLine line before v after → FromFrame (bytes_of line) before v after
-line-as-frame line before v after h d f =
+line_as_frame line before v after h d f =
     record { verdict = f.verdict ∙ line_frame line (length before) h d; area = f.area }
 
 -- the ends of a probit, in the form of `neighbours`
@@ -49,9 +49,9 @@ pub record DamagesNear (d : Damages) : Type 0 where
   pub fourth : Neighbours d.fourth.lower d.fourth.upper
   pub fifth : Neighbours d.fifth.lower d.fifth.upper
 
-pub damages-near : {c : Case} {bytes : List ℕ} (a : Answer c bytes) → DamagesNear (readings a.probits)
+pub damages_near : {c : Case} {bytes : List ℕ} (a : Answer c bytes) → DamagesNear (readings a.probits)
 unfolding readings reading
-damages-near a =
+damages_near a =
     record {
       first = beside a.first;
       second = beside a.second;

@@ -2,7 +2,7 @@
 use mathlib.Core.Path.{sym}
 use native.Mathlib.Omega.{arith}
 use lib.Seq.{length-take-le}
-use Rattle.archive.proofs.Gathering.{gathered-frames, gathered-archived}
+use Rattle.archive.proofs.Gathering.{gathered_frames, gathered_archived}
 use borrow.Author.Rules.{rules}
 use Rattle.archive.proofs.store.Statement.{statement}
 use Rattle.archive.proofs.store.Tie as tie
@@ -13,12 +13,12 @@ slice-aggregate-store c = sym (length-take-le _ _ (search rules))
 store-requires : tie.Need-store-requires
 store-requires c κs =
     let g = c.before.before.before.gather.ensures in
-    gathered-frames _ (search rules) g.0 g.1
+    gathered_frames _ (search rules) g.0 g.1
 
 returns : tie.Need-returns
 returns c =
     let g = c.before.before.before.before.before.before.gather.ensures in
-    rw (gathered-archived _ (search rules) g.0 g.1) at c.before.before.store.ensures
+    rw (gathered_archived _ (search rules) g.0 g.1) at c.before.before.store.ensures
 
 pub store_spec : {M : Type 1} → statement M
 store_spec =

@@ -2,63 +2,63 @@
 use Rattle.std.specs.Prelude.{ℕ, zero, suc, ◌+◌, ◌*◌, ◌<◌, ◌≡◌, refl, List, [], ◌∷◌, ◌++◌, length, get_or, take, drop}
 use Rattle.std.proofs.Common.{sym, ap, ◌∙◌, append_assoc, append-nil, arith, length-append, take-suc, take_at, drop_at, drop-drop}
 use Rattle.std.proofs.Math.Option.{Option, none, some, none-ne-some, some-injective}
-use Rattle.fields.specs.Bytes.{longFrame}
-use Rattle.fields.specs.laws.Back.{long-length}
+use Rattle.fields.specs.Bytes.{long_frame}
+use Rattle.fields.specs.laws.Back.{long_length}
 use Rattle.places.specs.declared.Held.{Held}
 use Rattle.places.specs.Holes.{trim, closed}
-use Rattle.places.specs.laws.Trims.{ahead-same}
-use Rattle.places.specs.laws.Closings.{closed-hole, closed-case}
-use Rattle.archive.specs.Archived.{frame_at, framesOf}
+use Rattle.places.specs.laws.Trims.{ahead_same}
+use Rattle.places.specs.laws.Closings.{closed_hole, closed_case}
+use Rattle.archive.specs.Archived.{frame_at, frames_of}
 use Rattle.archive.specs.Steps.{cases}
 
 -- holes at the end have no frames
-pub frames-trim : (xs : List (Option Held)) → framesOf (trim xs) ≡ framesOf xs
-unfolding framesOf trim
-frames-trim [] = refl
-frames-trim (x ∷ xs) = ahead-same framesOf refl x (trim xs) ∙ ap (λ (t : List ℕ). frame_at x ++ t) (frames-trim xs)
+pub frames_trim : (xs : List (Option Held)) → frames_of (trim xs) ≡ frames_of xs
+unfolding frames_of trim
+frames_trim [] = refl
+frames_trim (x ∷ xs) = ahead_same frames_of refl x (trim xs) ∙ ap (λ (t : List ℕ). frame_at x ++ t) (frames_trim xs)
 
 -- nor has a gap
-pub frames-closed : (xs : List (Option Held)) → framesOf (closed xs) ≡ framesOf xs
-unfolding framesOf closed
-frames-closed [] = refl
-frames-closed (none ∷ xs) = frames-closed xs
-frames-closed (some h ∷ xs) = ap (λ (t : List ℕ). longFrame h.case ++ t) (frames-closed xs)
+pub frames_closed : (xs : List (Option Held)) → frames_of (closed xs) ≡ frames_of xs
+unfolding frames_of closed
+frames_closed [] = refl
+frames_closed (none ∷ xs) = frames_closed xs
+frames_closed (some h ∷ xs) = ap (λ (t : List ℕ). long_frame h.case ++ t) (frames_closed xs)
 
 -- 24 bytes for each case
-pub frames-length : (xs : List (Option Held)) → length (framesOf xs) ≡ 24 * length (closed xs)
-unfolding framesOf closed
-frames-length [] = refl
-frames-length (none ∷ xs) = frames-length xs
-frames-length (some h ∷ xs) = omega (arith, length-append (longFrame h.case) (framesOf xs), long-length h.case, frames-length xs)
+pub frames_length : (xs : List (Option Held)) → length (frames_of xs) ≡ 24 * length (closed xs)
+unfolding frames_of closed
+frames_length [] = refl
+frames_length (none ∷ xs) = frames_length xs
+frames_length (some h ∷ xs) = omega (arith, length-append (long_frame h.case) (frames_of xs), long_length h.case, frames_length xs)
 
-frames-append : (xs : List (Option Held)) (x : Option Held) → framesOf (xs ++ (x ∷ [])) ≡ framesOf xs ++ frame_at x
-unfolding framesOf
-frames-append [] x = append-nil (frame_at x)
-frames-append (y ∷ xs) x = ap (λ (t : List ℕ). frame_at y ++ t) (frames-append xs x) ∙ sym (append_assoc (frame_at y) (framesOf xs) (frame_at x))
+frames_append : (xs : List (Option Held)) (x : Option Held) → frames_of (xs ++ (x ∷ [])) ≡ frames_of xs ++ frame_at x
+unfolding frames_of
+frames_append [] x = append-nil (frame_at x)
+frames_append (y ∷ xs) x = ap (λ (t : List ℕ). frame_at y ++ t) (frames_append xs x) ∙ sym (append_assoc (frame_at y) (frames_of xs) (frame_at x))
 
 -- one place more
 module _ (xs : List (Option Held)) (i : ℕ) (l : i < length xs) where
-  pub frames-next : (x : Option Held) → get_or xs i none ≡ x → framesOf (take (suc i) xs) ≡ framesOf (take i xs) ++ frame_at x
-  frames-next x e = rw (take-suc xs i none l, e) (frames-append (take i xs) x)
+  pub frames_next : (x : Option Held) → get_or xs i none ≡ x → frames_of (take (suc i) xs) ≡ frames_of (take i xs) ++ frame_at x
+  frames_next x e = rw (take-suc xs i none l, e) (frames_append (take i xs) x)
 
   pub cases_next : (x : Option Held) → get_or xs i none ≡ x → length (closed (take (suc i) xs)) ≡ length (closed (take i xs)) + cases x
-  cases_next none e = ap length (closed-hole xs i l e) ∙ omega arith
-  cases_next (some h) e = ap length (closed-case xs i h l e) ∙ length-append (closed (take i xs)) (some h ∷ [])
+  cases_next none e = ap length (closed_hole xs i l e) ∙ omega arith
+  cases_next (some h) e = ap length (closed_case xs i h l e) ∙ length-append (closed (take i xs)) (some h ∷ [])
 
 -- the frame of each case, counted from 0
-frame-of : (xs : List (Option Held)) (i : ℕ) (h : Held) → get_or (closed xs) i none ≡ some h → take 24 (drop (24 * i) (framesOf (closed xs))) ≡ longFrame h.case
-unfolding framesOf closed
-frame-of [] i h e = absurd (none-ne-some h e)
-frame-of (none ∷ xs) i h e = frame-of xs i h e
-frame-of (some c ∷ xs) zero h e =
-    take_at (longFrame c.case) (framesOf (closed xs)) 24 (long-length c.case) ∙ ap (λ (d : Held). longFrame d.case) (some-injective c h e)
-frame-of (some c ∷ xs) (suc i) h e =
+frame_of_lem : (xs : List (Option Held)) (i : ℕ) (h : Held) → get_or (closed xs) i none ≡ some h → take 24 (drop (24 * i) (frames_of (closed xs))) ≡ long_frame h.case
+unfolding frames_of closed
+frame_of_lem [] i h e = absurd (none-ne-some h e)
+frame_of_lem (none ∷ xs) i h e = frame_of_lem xs i h e
+frame_of_lem (some c ∷ xs) zero h e =
+    take_at (long_frame c.case) (frames_of (closed xs)) 24 (long_length c.case) ∙ ap (λ (d : Held). long_frame d.case) (some-injective c h e)
+frame_of_lem (some c ∷ xs) (suc i) h e =
     let past : 24 * suc i ≡ 24 + 24 * i = omega arith in
-    let behind : drop (24 * suc i) (longFrame c.case ++ framesOf (closed xs)) ≡ drop (24 * i) (framesOf (closed xs))
-    = ap (λ (k : ℕ). drop k (longFrame c.case ++ framesOf (closed xs))) past
-    ∙ sym (drop-drop (24 * i) 24 (longFrame c.case ++ framesOf (closed xs)))
-    ∙ ap (drop (24 * i)) (drop_at (longFrame c.case) (framesOf (closed xs)) 24 (long-length c.case)) in
-    ap (take 24) behind ∙ frame-of xs i h e
+    let behind : drop (24 * suc i) (long_frame c.case ++ frames_of (closed xs)) ≡ drop (24 * i) (frames_of (closed xs))
+    = ap (λ (k : ℕ). drop k (long_frame c.case ++ frames_of (closed xs))) past
+    ∙ sym (drop-drop (24 * i) 24 (long_frame c.case ++ frames_of (closed xs)))
+    ∙ ap (drop (24 * i)) (drop_at (long_frame c.case) (frames_of (closed xs)) 24 (long_length c.case)) in
+    ap (take 24) behind ∙ frame_of_lem xs i h e
 
-pub frame-at : (xs : List (Option Held)) (i : ℕ) (h : Held) → get_or (closed xs) i none ≡ some h → take 24 (drop (24 * i) (framesOf xs)) ≡ longFrame h.case
-frame-at xs i h e = rw (← frames-closed xs) (frame-of xs i h e)
+pub frame_at_lem : (xs : List (Option Held)) (i : ℕ) (h : Held) → get_or (closed xs) i none ≡ some h → take 24 (drop (24 * i) (frames_of xs)) ≡ long_frame h.case
+frame_at_lem xs i h e = rw (← frames_closed xs) (frame_of_lem xs i h e)

@@ -1,29 +1,29 @@
 -- `blast::detonation_impulse` meets its contract. Assumes nothing.
 use borrow.Author.Rules.{rules}
-use Rattle.blast.proofs.Detonations.{told-near, told-heterogeneous, told-gas, near-impulse, heterogeneous-impulse, gas-impulse}
+use Rattle.blast.proofs.Detonations.{told_near, told_heterogeneous, told_gas, near_impulse_lem, heterogeneous_impulse, gas_impulse_lem}
 use Rattle.blast.proofs.detonation_impulse.Statement.{statement}
 use Rattle.blast.proofs.detonation_impulse.Tie as tie
 
 aerosol-impulse-requires : tie.Need-aerosol-impulse-requires
-aerosol-impulse-requires c κs = (told-heterogeneous c.before.before.before.requires c.before.d2.given.1).distance
+aerosol-impulse-requires c κs = (told_heterogeneous c.before.before.before.requires c.before.d2.given.1).distance
 
 gas-impulse-requires : tie.Need-gas-impulse-requires
-gas-impulse-requires c κs = (told-gas c.before.before.before.requires c.before.d3.given.1).distance.logged
+gas-impulse-requires c κs = (told_gas c.before.before.before.requires c.before.d3.given.1).distance.logged
 
 returns : tie.Need-returns
 returns c =
     let d = c.before.before in
-    near-impulse (told-near d.before.before.requires d.d.given.1) c.near-impulse.ensures
+    near_impulse_lem (told_near d.before.before.requires d.d.given.1) c.near_impulse_lem.ensures
 
 returns-2 : tie.Need-returns-2
 returns-2 c =
     let d = c.before.before in
-    heterogeneous-impulse (told-heterogeneous d.before.before.requires d.d2.given.1) c.aerosol-impulse.ensures
+    heterogeneous_impulse (told_heterogeneous d.before.before.requires d.d2.given.1) c.aerosol-impulse.ensures
 
 returns-3 : tie.Need-returns-3
 returns-3 c =
     let d = c.before.before in
-    gas-impulse (told-gas d.before.before.requires d.d3.given.1) c.gas-impulse.ensures
+    gas_impulse_lem (told_gas d.before.before.requires d.d3.given.1) c.gas_impulse_lem.ensures
 
 pub detonation-impulse-spec : {M : Type 1} → statement M
 detonation-impulse-spec =

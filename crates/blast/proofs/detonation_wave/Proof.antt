@@ -1,22 +1,22 @@
 -- `blast::detonation_wave` meets its contract. Assumes nothing.
 use borrow.Author.Rules.{rules}
-use Rattle.blast.proofs.OneRule.{some, detonated-pressure, detonated-impulse}
+use Rattle.blast.proofs.OneRule.{some, detonated_pressure, detonated_impulse}
 use Rattle.blast.proofs.detonation_wave.Statement.{statement}
 use Rattle.blast.proofs.detonation_wave.Tie as tie
 
 pascals-requires : tie.Need-pascals-requires
-pascals-requires c κs = (c.before.requires.0, some (detonated-pressure c.detonation-pressure.ensures))
+pascals-requires c κs = (c.before.requires.0, some (detonated_pressure c.detonation-pressure.ensures))
 
 pascal-seconds-requires : tie.Need-pascal-seconds-requires
-pascal-seconds-requires c κs = (c.before.before.before.requires.1, some (detonated-impulse c.detonation-impulse.ensures))
+pascal-seconds-requires c κs = (c.before.before.before.requires.1, some (detonated_impulse c.detonation-impulse.ensures))
 
 returns : tie.Need-returns
 returns c =
     let i = c.before in
     let p = i.before in
     record {
-      pressure = p.pascals.ensures.value _ (detonated-pressure p.before.detonation-pressure.ensures);
-      impulse = c.pascal-seconds.ensures.value _ (detonated-impulse i.detonation-impulse.ensures);
+      pressure = p.pascals.ensures.value _ (detonated_pressure p.before.detonation-pressure.ensures);
+      impulse = c.pascal-seconds.ensures.value _ (detonated_impulse i.detonation-impulse.ensures);
     }
 
 pub detonation-wave-spec : {M : Type 1} → statement M

@@ -1,31 +1,31 @@
 -- `blast::reduced_pressure` meets its contract. Assumes nothing.
 use native.Mathlib.Omega.{arith}
 use borrow.Author.Rules.{rules}
-use Rattle.guidance.specs.Waves.{reducedPressure}
-use Rattle.blast.specs.Windows.{deflagrationPressureWindow}
-use Rattle.blast.proofs.Deflagrations.{told-burning, deflagrating, deflagration-pressure, detonation-alone, smaller-of-both}
+use Rattle.guidance.specs.Waves.{reduced_pressure}
+use Rattle.blast.specs.Windows.{deflagration_pressure_window}
+use Rattle.blast.proofs.Deflagrations.{told_burning, deflagrating, deflagration_pressure_lem, detonation_alone, smaller_of_both}
 use Rattle.blast.proofs.reduced_pressure.Statement.{statement}
 use Rattle.blast.proofs.reduced_pressure.Tie as tie
 
 deflagration-pressure-requires : tie.Need-deflagration-pressure-requires
 deflagration-pressure-requires c κs =
     let f = c.before in
-    deflagrating (told-burning f.before.before.before.requires.deflagration f.deflagration.given.1).flame
+    deflagrating (told_burning f.before.before.before.requires.deflagration f.deflagration.given.1).flame
 
 returns : tie.Need-returns
-unfolding reducedPressure
+unfolding reduced_pressure
 returns c =
     let d = c.before.before in
-    detonation-alone _ _ _ deflagrationPressureWindow _ (omega arith) (omega arith) d.detonation-pressure.ensures (rw c.enum_told.given.1 at d.before.requires.deflagration)
+    detonation_alone _ _ _ deflagration_pressure_window _ (omega arith) (omega arith) d.detonation-pressure.ensures (rw c.enum_told.given.1 at d.before.requires.deflagration)
 
 returns-2 : tie.Need-returns-2
-unfolding reducedPressure
+unfolding reduced_pressure
 returns-2 c =
     let p = c.before in
     let f = p.before.before in
     let d = f.before.before in
-    let b = told-burning d.before.requires.deflagration f.deflagration.given.1 in
-    smaller-of-both _ _ _ _ _ (omega arith) (omega arith) d.detonation-pressure.ensures b.burns (deflagration-pressure b.flame p.deflagration-pressure.ensures) c.lesser.ensures
+    let b = told_burning d.before.requires.deflagration f.deflagration.given.1 in
+    smaller_of_both _ _ _ _ _ (omega arith) (omega arith) d.detonation-pressure.ensures b.burns (deflagration_pressure_lem b.flame p.deflagration_pressure_lem.ensures) c.lesser.ensures
 
 pub reduced-pressure-spec : {M : Type 1} → statement M
 reduced-pressure-spec =

@@ -5,21 +5,21 @@ use native.Mathlib.Omega.{arith}
 use lib.Seq.{length-take-le}
 use borrow.Author.Rules.{rules}
 use Rattle.columns.specs.Transposed.{transposed}
-use Rattle.columns.proofs.Writing.{restore-empty, restore-many, restore-length, restore-short, restore-written, behind-first, behind-length}
+use Rattle.columns.proofs.Writing.{restore_empty, restore_many, restore_length, restore_short, restore_written, behind_first, behind_length}
 use Rattle.columns.proofs.restore.Statement.{statement}
 use Rattle.columns.proofs.restore.Tie as tie
 
 returns : tie.Need-returns
-returns c = restore-empty _ _ (omega arith)
+returns c = restore_empty _ _ (omega arith)
 
 returns-2 : tie.Need-returns-2
-returns-2 c = restore-many _ _ _ (omega arith) c.before.wide.ensures (omega arith)
+returns-2 c = restore_many _ _ _ (omega arith) c.before.wide.ensures (omega arith)
 
 returns-3 : tie.Need-returns-3
-returns-3 c = restore-length _ _ _ (omega arith) c.before.before.wide.ensures (omega arith) (λ e. omega arith)
+returns-3 c = restore_length _ _ _ (omega arith) c.before.before.wide.ensures (omega arith) (λ e. omega arith)
 
 returns-4 : tie.Need-returns-4
-returns-4 c = restore-short _ _ _ (omega arith) c.before.before.before.wide.ensures (omega arith) (omega arith) (omega arith)
+returns-4 c = restore_short _ _ _ (omega arith) c.before.before.before.wide.ensures (omega arith) (omega arith) (omega arith)
 
 slice-aggregate-transpose : tie.Need-slice-aggregate-transpose
 slice-aggregate-transpose c = sym (length-take-le _ _ (omega arith))
@@ -29,15 +29,15 @@ transpose-requires c κs =
     let known = c.before.before.before.before.before in
     let s = known.before.before.before.before.before in
     let size = 24 * known.wide.result in
-    (behind-length s.args.from.now size (omega arith), omega (arith, length-take-le size s.args.area.now (omega arith)))
+    (behind_length s.args.from.now size (omega arith), omega (arith, length-take-le size s.args.area.now (omega arith)))
 
 returns-5 : tie.Need-returns-5
 returns-5 c =
     let known = c.before.before.before.before.before.before.before.before in
     let s = known.before.before.before.before.before in
     let wide = known.wide in
-    restore-written _ _ _ (omega arith) wide.ensures (omega arith) (omega arith) _ (omega arith)
-    (c.before.before.transpose.ensures ∙ ap (transposed 24 wide.result) (behind-first s.args.from.now))
+    restore_written _ _ _ (omega arith) wide.ensures (omega arith) (omega arith) _ (omega arith)
+    (c.before.before.transpose.ensures ∙ ap (transposed 24 wide.result) (behind_first s.args.from.now))
 
 pub restore-spec : {M : Type 1} → statement M
 restore-spec =

@@ -5,12 +5,12 @@ use native.Mathlib.Omega.{arith}
 use lib.ListN.{set, length-set}
 use borrow.Author.Rules.{rules}
 use borrow.Rule.Slice.PartMut.{same_len_mid}
-use Rattle.columns.proofs.Writing.{store-short, store-written}
+use Rattle.columns.proofs.Writing.{store_short, store_written}
 use Rattle.columns.proofs.store.Statement.{statement}
 use Rattle.columns.proofs.store.Tie as tie
 
 returns : tie.Need-returns
-returns c = store-short _ _ _ (omega arith)
+returns c = store_short _ _ _ (omega arith)
 
 same_length : tie.Need-same-length
 same_length c =
@@ -21,7 +21,7 @@ same_length c =
     same_len_mid 1 (1 + 24 * n - 1) (set area 0 n) written.transpose.new.1.1.1.0 written.transpose.auto.1.1.1.0 ∙ length-set area 0 n
 
 returns-2 : tie.Need-returns-2
-returns-2 c = store-written _ _ _ _ (omega arith) c.before.before.transpose.ensures
+returns-2 c = store_written _ _ _ _ (omega arith) c.before.before.transpose.ensures
 
 pub store_spec : {M : Type 1} → statement M
 store_spec =

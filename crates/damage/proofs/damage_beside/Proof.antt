@@ -4,7 +4,7 @@ use mathlib.Core.Path.{◌≡◌, sym, ◌∙◌, ap}
 use borrow.Author.Rules.{rules}
 use Rattle.signed.specs.Reading.{back}
 use Rattle.damage.specs.Damage.{damage}
-use Rattle.damage.specs.laws.Readings.{fromZero, same-hundredths}
+use Rattle.damage.specs.laws.Readings.{from_zero, same_hundredths}
 use Rattle.damage.proofs.damage_beside.Statement.{statement}
 use Rattle.damage.proofs.damage_beside.Tie as tie
 
@@ -22,12 +22,12 @@ returns c =
     let start = c.before.before.before in
     let known = start.args.known in
     let probit = start.args.probit in
-    let first = c.before.before.from_zero.ensures ∙ ap fromZero (back known start.ranges.known.sfits) in
-    let second = c.before.from-zero2.ensures ∙ ap fromZero (back probit start.ranges.probit.sfits) in
-    let same : fromZero known / 10 ≡ fromZero probit / 10 =
+    let first = c.before.before.from_zero_lem.ensures ∙ ap from_zero (back known start.ranges.known.sfits) in
+    let second = c.before.from-zero2.ensures ∙ ap from_zero (back probit start.ranges.probit.sfits) in
+    let same : from_zero known / 10 ≡ from_zero probit / 10 =
     sym (ap (λ (n : ℕ). n / 10) first) ∙ c.if1.true ∙ ap (λ (n : ℕ). n / 10) second
     in
-    start.requires ∙ same-hundredths known probit same
+    start.requires ∙ same_hundredths known probit same
 
 returns-2 : tie.Need-returns-2
 returns-2 c =

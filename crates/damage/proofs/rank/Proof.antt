@@ -3,7 +3,7 @@ use Prim.Native.Nat.{◌+◌, ◌*◌, ◌-◌, ◌/◌}
 use mathlib.Core.Path.{◌∙◌, ap}
 use borrow.Author.Rules.{rules}
 use lib.ListN.{get_or}
-use Rattle.damage.proofs.Ranks.{Halved, halved-start, halved-low, halved-high, halved-end}
+use Rattle.damage.proofs.Ranks.{Halved, halved_start, halved_low, halved_high, halved_end}
 use Rattle.damage.proofs.rank.Statement.{statement}
 use Rattle.damage.proofs.rank.Tie as tie
 
@@ -14,7 +14,7 @@ abbrev decreases-loop : tie.decreases-loop
 decreases-loop t p lo₀ hi₀ lo hi = hi - lo
 
 loop-holds : tie.Need-loop-init invariant-loop decreases-loop
-loop-holds c = halved-start _
+loop-holds c = halved_start _
 
 add-mid : tie.Need-overflow-add-mid invariant-loop decreases-loop
 add-mid c = search rules
@@ -38,7 +38,7 @@ loop-again : tie.Need-loop-preserved invariant-loop decreases-loop
 loop-again c =
     let s = c.before.before.before.before.before in
     let mid = (c.before.before.before.before.loop.lo + c.before.before.before.before.loop.hi) / 2 in
-    halved-low mid c.before.before.before.before.loop.invariant (search rules) (c.before.in-thousandths.ensures ∙ ap (λ l. 10 * get_or l mid 0) s.requires) (search rules)
+    halved_low mid c.before.before.before.before.loop.invariant (search rules) (c.before.in-thousandths.ensures ∙ ap (λ l. 10 * get_or l mid 0) s.requires) (search rules)
 
 loop-less-2 : tie.Need-loop-smaller-2 invariant-loop decreases-loop
 loop-less-2 c = search rules
@@ -47,10 +47,10 @@ loop-again-2 : tie.Need-loop-preserved-2 invariant-loop decreases-loop
 loop-again-2 c =
     let s = c.before.before.before.before.before in
     let mid = (c.before.before.before.before.loop.lo + c.before.before.before.before.loop.hi) / 2 in
-    halved-high mid c.before.before.before.before.loop.invariant (search rules) (search rules) (c.before.in-thousandths.ensures ∙ ap (λ l. 10 * get_or l mid 0) s.requires) (search rules)
+    halved_high mid c.before.before.before.before.loop.invariant (search rules) (search rules) (c.before.in-thousandths.ensures ∙ ap (λ l. 10 * get_or l mid 0) s.requires) (search rules)
 
 returns : tie.Need-returns invariant-loop decreases-loop
-returns c = halved-end c.before.loop.invariant c.loop-test.false
+returns c = halved_end c.before.loop.invariant c.loop-test.false
 
 pub rank-spec : {M : Type 1} → statement M
 rank-spec =

@@ -1,11 +1,11 @@
 -- `doubles::of_bits` meets its contract: above infinity's pattern, the sign apart, stand the NaNs. Assumes nothing.
 use borrow.Author.Rules.{rules}
-use Rattle.doubles.specs.laws.Patterns.{nan_pattern, no-nan-pattern}
+use Rattle.doubles.specs.laws.Patterns.{nan_pattern, no_nan_pattern}
 use Rattle.doubles.proofs.of_bits.Statement.{statement}
 use Rattle.doubles.proofs.of_bits.Tie as tie
 
 float-from-bits-result : tie.Need-float-from-bits-result
-float-from-bits-result c = no-nan-pattern c.before.args.bits c.if1.false
+float-from-bits-result c = no_nan_pattern c.before.args.bits c.if1.false
 
 returns : tie.Need-returns
 returns c = nan_pattern c.before.args.bits c.if1.true

@@ -11,7 +11,7 @@ use Rattle.std.specs.Float.Ieee.Bits.{of_bits-to_bits}
 use Rattle.std.specs.Float.Ieee.Scale.{finite}
 use Rattle.doubles.specs.Doubles.{unusable, rounded}
 use Rattle.doubles.specs.Bits.{exponent, fraction, units}
-use Rattle.doubles.specs.laws.Values.{rounded-value, nearest-none, nearest-halves, no_nan, usable-finite, usable-le}
+use Rattle.doubles.specs.laws.Values.{rounded_value, nearest_none, nearest_halves, no_nan, usable_finite, usable_le}
 
 fields_value : (s : Bool) (e t : ℕ) → T (finite (of_fields binary64 s e t)) → Equals (of_fields binary64 s e t) (units e t) (2 ^ 1074)
 unfolding of_fields
@@ -36,16 +36,16 @@ value x F f =
     (fields_value (leb (2 ^ 63) (to_bits binary64 x)) (exponent (to_bits binary64 x)) (fraction (to_bits binary64 x)) (subst (λ (y : Float). T (finite y)) is f))
 
 -- bounds of the two fields
-powers-back : (i p : ℕ) → 2 ^ i < 2 ^ p → i < p
-powers-back i p h = lt_of_not-le (λ (g : p ≤ i). lt_irrefl (2 ^ i) (lt_of_lt_of_le h (pow_mono g)))
+powers_back : (i p : ℕ) → 2 ^ i < 2 ^ p → i < p
+powers_back i p h = lt_of_not-le (λ (g : p ≤ i). lt_irrefl (2 ^ i) (lt_of_lt_of_le h (pow_mono g)))
 
 -- at most 1,000,000,000, so below 2 ^ 30
-units-le : (e t : ℕ) → units e t ≤ 1000000000 * 2 ^ 1074 → e ≤ 1074
-units-le zero t h = lit≤ tt
-units-le (suc j) t h =
+units_le : (e t : ℕ) → units e t ≤ 1000000000 * 2 ^ 1074 → e ≤ 1074
+units_le zero t h = lit≤ tt
+units_le (suc j) t h =
     let top : 2 ^ (52 + j) < 2 ^ 1104 =
     lt_of_le_of_lt (le_of_eq (pow-add 2 52 j)) (lt_of_le_of_lt (mul-le-mul_right (2 ^ j) (le-add_right (2 ^ 52) t)) (lt_of_le_of_lt h (lit< tt))) in
-    less j (powers-back (52 + j) 1104 top)
+    less j (powers_back (52 + j) 1104 top)
   where
     less : (j : ℕ) → 52 + j < 1104 → suc j ≤ 1074
     less j h = omega arith
@@ -75,7 +75,7 @@ halved (suc j) t k P E =
     let H = 2 ^ (1074 - suc j) in
     let split : 2 ^ 1074 ≡ 2 * (J * H) = ap (λ (i : ℕ). 2 ^ i) (sum j E) ∙ pow-add 2 1 (j + (1074 - suc j)) ∙ ap (λ (i : ℕ). 2 * i) (pow-add 2 j (1074 - suc j)) in
     ap (λ (l : ℕ). (2 * ((2 ^ 52 + t) * J * k) + l) / (2 * l)) split
-    ∙ nearest-halves (2 ^ 52 + t) J H k (pow_pos j) (pow_pos (1074 - suc j))
+    ∙ nearest_halves (2 ^ 52 + t) J H k (pow_pos j) (pow_pos (1074 - suc j))
     ∙ ap (λ (q : ℕ). (q * k / H + 1) / 2) (swap t)
   where
     sum : (j : ℕ) → suc j ≤ 1074 → 1074 ≡ 1 + (j + (1074 - suc j))
@@ -93,43 +93,43 @@ module _ (k : ℕ) (x : Float) (F : T (fits binary64 x)) (U : unusable x ≡ fal
   t = fraction (to_bits binary64 x)
 
   equals : Equals x (units e t) (2 ^ 1074)
-  equals = value x F (usable-finite x U)
+  equals = value x F (usable_finite x U)
 
   is : rounded k x ≡ (2 * (units e t * k) + 2 ^ 1074) / (2 * 2 ^ 1074)
-  is = rounded-value k x (units e t) (2 ^ 1074) (pow_pos 1074) equals
+  is = rounded_value k x (units e t) (2 ^ 1074) (pow_pos 1074) equals
 
-  fraction-lt : t < 2 ^ 52
-  fraction-lt = mask_lt (to_bits binary64 x) 52
+  fraction_lt : t < 2 ^ 52
+  fraction_lt = mask_lt (to_bits binary64 x) 52
 
   pub is_no_nan : T (not (is_nan x))
-  is_no_nan = no_nan x (usable-finite x U)
+  is_no_nan = no_nan x (usable_finite x U)
 
   pub tiny : e ≤ 1010 → 0 ≡ rounded k x
-  tiny h = sym (is ∙ nearest-none (units e t) k (2 ^ 1074) (units_small e t k fraction-lt K h))
+  tiny h = sym (is ∙ nearest_none (units e t) k (2 ^ 1074) (units_small e t k fraction_lt K h))
 
-  pub digits-fit : t + 2 ^ 52 < 2 ^ 64
-  digits-fit = go t fraction-lt
+  pub digits_fit : t + 2 ^ 52 < 2 ^ 64
+  digits_fit = go t fraction_lt
     where
       go : (t : ℕ) → t < 2 ^ 52 → t + 2 ^ 52 < 2 ^ 64
       go t h = omega arith
 
   product_lt : (t + 2 ^ 52) * k < 2 ^ 63
-  product_lt = lt_of_le_of_lt (mul-le-mul (go t fraction-lt) K) (lit< tt)
+  product_lt = lt_of_le_of_lt (mul-le-mul (go t fraction_lt) K) (lit< tt)
     where
       go : (t : ℕ) → t < 2 ^ 52 → t + 2 ^ 52 ≤ 2 ^ 53
       go t h = omega arith
 
-  pub product-fits : (t + 2 ^ 52) * k < 2 ^ 64
-  product-fits = lt_of_lt_of_le product_lt (lit≤ tt)
+  pub product_fits : (t + 2 ^ 52) * k < 2 ^ 64
+  product_fits = lt_of_lt_of_le product_lt (lit≤ tt)
 
-  pub to-the-right : e ≤ 1074
-  to-the-right = units-le e t (usable-le x (units e t) (2 ^ 1074) U equals)
+  pub to_the_right : e ≤ 1074
+  to_the_right = units_le e t (usable_le x (units e t) (2 ^ 1074) U equals)
 
-  pub halves-fit : (t + 2 ^ 52) * k / 2 ^ (1074 - e) + 1 < 2 ^ 64
-  halves-fit = go ((t + 2 ^ 52) * k / 2 ^ (1074 - e)) (lt_of_le_of_lt (shr_le ((t + 2 ^ 52) * k) (1074 - e)) product_lt)
+  pub halves_fit : (t + 2 ^ 52) * k / 2 ^ (1074 - e) + 1 < 2 ^ 64
+  halves_fit = go ((t + 2 ^ 52) * k / 2 ^ (1074 - e)) (lt_of_le_of_lt (shr_le ((t + 2 ^ 52) * k) (1074 - e)) product_lt)
     where
       go : (h : ℕ) → h < 2 ^ 63 → h + 1 < 2 ^ 64
       go h l = omega arith
 
   pub half_up : 1010 < e → ((t + 2 ^ 52) * k / 2 ^ (1074 - e) + 1) / 2 ≡ rounded k x
-  half_up h = sym (is ∙ halved e t k (lt_of_le_of_lt (lit≤ tt) h) to-the-right)
+  half_up h = sym (is ∙ halved e t k (lt_of_le_of_lt (lit≤ tt) h) to_the_right)

@@ -10,11 +10,11 @@ apart a b = (a - b) + (b - a)
 sub-mul : (a b k : ℕ) → (a - b) * k ≡ a * k - b * k
 sub-mul a b k = mul_comm (a - b) k ∙ mul-sub k a b ∙ ap (λ (i : ℕ). i - k * b) (mul_comm k a) ∙ ap (λ (i : ℕ). a * k - i) (mul_comm k b)
 
-pub apart-mul : (a b k : ℕ) → apart a b * k ≡ apart (a * k) (b * k)
-apart-mul a b k = omega (arith, sub-mul a b k, sub-mul b a k)
+pub apart_mul : (a b k : ℕ) → apart a b * k ≡ apart (a * k) (b * k)
+apart_mul a b k = omega (arith, sub-mul a b k, sub-mul b a k)
 
-pub less-or-more : (i a : ℕ) → (i < a) ⊎ (a ≤ i)
-less-or-more i a = go (ltb i a) (ltb→lt i a) (nltb→le i a)
+pub less_or_more : (i a : ℕ) → (i < a) ⊎ (a ≤ i)
+less_or_more i a = go (ltb i a) (ltb→lt i a) (nltb→le i a)
   where
     go : (t : Bool) → (T t → i < a) → (T (not t) → a ≤ i) → (i < a) ⊎ (a ≤ i)
     go true h k = inl (h tt)
@@ -24,7 +24,7 @@ less-or-more i a = go (ltb i a) (ltb→lt i a) (nltb→le i a)
 module _ (q u N : ℕ) (U : 0 < u) (under : 2 * (q * u) ≤ 2 * N + u) (over : 2 * N ≤ 2 * (q * u) + u) where
   -- no multiple is nearer
   pub best : (a : ℕ) → apart (q * u) N ≤ apart (a * u) N
-  best a = elim (less-or-more a q) [
+  best a = elim (less_or_more a q) [
     | inl l ↦ let h : (a + 1) * u ≤ q * u = mul-le-mul_right u (step a q l) in omega arith
     | inr g ↦ elim (eq-or-lt_of_le g) [
       | inl e ↦ omega (arith, ap (λ (i : ℕ). i * u) e)
@@ -37,7 +37,7 @@ module _ (q u N : ℕ) (U : 0 < u) (under : 2 * (q * u) ≤ 2 * N + u) (over : 2
 
   -- another that is as near is a neighbour, and N lies midway
   pub rival : (a : ℕ) → apart (a * u) N ≤ apart (q * u) N → (a ≡ q) ⊎ ((o : ℕ) × (o % 2 ≡ 1) × (2 * N ≡ o * u))
-  rival a r = elim (less-or-more a q) [
+  rival a r = elim (less_or_more a q) [
     | inl l ↦ inr (2 * a + 1, odd a, below l (mul-le-mul_right u (step a q l)))
     | inr g ↦ elim (eq-or-lt_of_le g) [
       | inl e ↦ inl (sym e)
@@ -58,8 +58,8 @@ module _ (q u N : ℕ) (U : 0 < u) (under : 2 * (q * u) ≤ 2 * N + u) (over : 2
       above l h = omega arith
 
 -- an odd number times s that a power of two divides: the power divides s
-even-or-odd : (O s c : ℕ) → O % 2 ≡ 1 → O * s ≡ 2 * c → s % 2 ≡ 0
-even-or-odd O s c o h =
+even_or_odd : (O s c : ℕ) → O % 2 ≡ 1 → O * s ≡ 2 * c → s % 2 ≡ 0
+even_or_odd O s c o h =
     let p : O ≡ 2 * (O / 2) + 1 = omega arith in
     let r : s ≡ 2 * (s / 2) + s % 2 = omega arith in
     go (O / 2) (s / 2) (s % 2) (bit s) (sym h ∙ ap (λ (i : ℕ). i * s) p ∙ ap (λ (i : ℕ). (2 * (O / 2) + 1) * i) r)
@@ -76,7 +76,7 @@ pub divides : (m O s c : ℕ) → O % 2 ≡ 1 → 0 < s → O * s ≡ c * 2 ^ m 
 divides zero O s c o S h = S
 divides (suc m) O s c o S h =
     let h' : O * s ≡ 2 * (c * 2 ^ m) = h ∙ ap (λ (i : ℕ). c * i) (pow-succ' 2 m) ∙ swap c (2 ^ m) in
-    let e = even-or-odd O s (c * 2 ^ m) o h' in
+    let e = even_or_odd O s (c * 2 ^ m) o h' in
     let r = divides m O (s / 2) c o (half s e S) (halves O s (c * 2 ^ m) e h') in
     subst (λ (i : ℕ). i ≤ s) (sym (pow-succ' 2 m)) (double s (2 ^ m) e r)
   where

@@ -14,7 +14,7 @@ use Rattle.std.specs.Float.Ieee.Order.{drop}
 use Rattle.std.specs.Float.Ieee.Scale.{grid, round_val}
 use Rattle.doubles.specs.Doubles.{unusable, rounded, nearest}
 use Rattle.doubles.specs.RoundTrip.{Fraction}
-use Rattle.doubles.specs.laws.Values.{rounded-value}
+use Rattle.doubles.specs.laws.Values.{rounded_value}
 
 -- a / b to the nearest whole number is within a half of it
 rounds : (q r b : ℕ) (o : Ordering) → r < b → (T (is_le o) → r * 2 ≤ b) → (T (not (is_le o)) → b < r * 2) → (T (compare_is_eq o) → r * 2 ≡ b)
@@ -29,8 +29,8 @@ rounds q r b Ordering.eq h l g e =
     bit q = omega arith
 rounds q r b Ordering.gt h l g e = let g' = g tt in (omega arith, omega arith)
 
-pub closest-near : (a b : ℕ) → 0 < b → (2 * (closest a b * b) ≤ 2 * a + b) × (2 * a ≤ 2 * (closest a b * b) + b)
-closest-near a b B =
+pub closest_near : (a b : ℕ) → 0 < b → (2 * (closest a b * b) ≤ 2 * a + b) × (2 * a ≤ 2 * (closest a b * b) + b)
+closest_near a b B =
     subst (λ (z : ℕ). (2 * (closest a b * b) ≤ 2 * z + b) × (2 * z ≤ 2 * (closest a b * b) + b)) (div-add-mod' a b)
     (rounds (a / b) (a % b) b (compare (a % b * 2) b) (mod-lt a B) (leb→le (a % b * 2) b) (nleb→lt (a % b * 2) b) (eqb→eq (a % b * 2) b))
 
@@ -49,8 +49,8 @@ dropped s n f = less (size (n * P / s)) (size-le (n * P / s) 1104 (lt_of_le_of_l
     less z h = omega arith
 
 -- one unit of its last digit, times the scale, is below 1
-unit-lt : (s n : ℕ) → Fraction s n → s * 2 ^ drop 53 (n * P) s < P
-unit-lt s n f = lt_of_le_of_lt (mul-le-mul f.most (pow_mono (dropped s n f))) (lit< tt)
+unit_lt : (s n : ℕ) → Fraction s n → s * 2 ^ drop 53 (n * P) s < P
+unit_lt s n f = lt_of_le_of_lt (mul-le-mul f.most (pow_mono (dropped s n f))) (lit< tt)
 
 -- g units are within a half of n / s, times s
 record Near (s n g p : ℕ) : Type 0 where
@@ -68,8 +68,8 @@ within s n q w u p e a b h =
 near : (s n : ℕ) → Fraction s n → Near s n (grid binary64 n s) P
 near s n f =
     let w = 2 ^ drop 53 (n * P) s in
-    let c = closest-near (n * P) (s * w) (mul-pos f.scale (pow_pos (drop 53 (n * P) s))) in
-    within s n (closest (n * P) (s * w)) w (s * w) P refl c.0 c.1 (unit-lt s n f)
+    let c = closest_near (n * P) (s * w) (mul-pos f.scale (pow_pos (drop 53 (n * P) s))) in
+    within s n (closest (n * P) (s * w)) w (s * w) P refl c.0 c.1 (unit_lt s n f)
 
 -- so it is below 1,000,000,000
 capped : (s n g p : ℕ) → Fraction s n → 0 < p → Near s n g p → g ≤ 1000000000 * p
@@ -84,8 +84,8 @@ equals (inf t) a c h = h
 equals (fin t m e) a c h = h.1
 
 -- a value from zero to 1,000,000,000 passes test 16
-under-limit : (M D a c : ℕ) → M * c ≡ a * D → a ≤ 1000000000 * c → M * 1 * c ≤ 1000000000 * D * c
-under-limit M D a c v h = omega (arith, v, mul-le-mul_right D h)
+under_limit : (M D a c : ℕ) → M * c ≡ a * D → a ≤ 1000000000 * c → M * 1 * c ≤ 1000000000 * D * c
+under_limit M D a c v h = omega (arith, v, mul-le-mul_right D h)
 
 neither : (a b : Bool) → a ≡ false → b ≡ false → (a || b) ≡ false
 neither true b p q = p
@@ -101,19 +101,19 @@ passes (inf t) a c C h l = absurd h
 passes (fin true m e) a c C h l = absurd (true≢false h.0)
 passes (fin false m e) a c C h l =
     neither (ltb (m * up e * 1) (0 * down e)) (ltb (1000000000 * down e) (m * up e * 1)) (le-ltb (m * up e * 1) (0 * down e) (no_lower (m * up e * 1) (down e)))
-    (le-ltb (1000000000 * down e) (m * up e * 1) (le_of_mul-le-mul_right (under-limit (m * up e) (down e) a c h.1 l) C))
+    (le-ltb (1000000000 * down e) (m * up e * 1) (le_of_mul-le-mul_right (under_limit (m * up e) (down e) a c h.1 l) C))
 
 module _ (s n : ℕ) (f : Fraction s n) where
-  units-le : grid binary64 n s ≤ 1000000000 * P
-  units-le = capped s n (grid binary64 n s) P f (pow_pos 1074) (near s n f)
+  units_le : grid binary64 n s ≤ 1000000000 * P
+  units_le = capped s n (grid binary64 n s) P f (pow_pos 1074) (near s n f)
 
   pub value : HasValue (nearest s n) false (grid binary64 n s) P
-  value = round_val binary64 n s (lt_of_le_of_lt units-le (lit< tt))
+  value = round_val binary64 n s (lt_of_le_of_lt units_le (lit< tt))
 
   pub back_in : rounded s (nearest s n) ≡ n
   back_in =
       let r = near s n f in
-      rounded-value s (nearest s n) (grid binary64 n s) P (pow_pos 1074) (equals (nearest s n) (grid binary64 n s) P value)
+      rounded_value s (nearest s n) (grid binary64 n s) P (pow_pos 1074) (equals (nearest s n) (grid binary64 n s) P value)
       ∙ div-eq_of_lt-le (2 * P) (low (grid binary64 n s) P r.over) (high (grid binary64 n s) P r.under)
     where
       low : (g p : ℕ) → 2 * (n * p) < 2 * (g * s) + p → n * (2 * p) ≤ 2 * (g * s) + p
@@ -122,5 +122,5 @@ module _ (s n : ℕ) (f : Fraction s n) where
       high : (g p : ℕ) → 2 * (g * s) < 2 * (n * p) + p → 2 * (g * s) + p < (n + 1) * (2 * p)
       high g p h = omega arith
 
-  pub back-usable : unusable (nearest s n) ≡ false
-  back-usable = passes (nearest s n) (grid binary64 n s) P (pow_pos 1074) value units-le
+  pub back_usable : unusable (nearest s n) ≡ false
+  back_usable = passes (nearest s n) (grid binary64 n s) P (pow_pos 1074) value units_le

@@ -9,14 +9,14 @@ use Rattle.enclosure.specs.Promises.{Exponent}
 use Rattle.signed.specs.Reading.{R, back, step}
 use Rattle.signed.specs.Magnitude.{size}
 use Rattle.enclosure.proofs.Differences.{difference}
-use Rattle.enclosure.proofs.ExpInterval.{upper-least, interval}
+use Rattle.enclosure.proofs.ExpInterval.{upper_least, interval}
 use Rattle.enclosure.proofs.expo.Statement.{statement}
 use Rattle.enclosure.proofs.expo.Tie as tie
 
 -- the ends and the width, as the code reads them
 module _ (y : Log) (e : Exponent y) where
   hi-read : R y.hi ≡ y.hi
-  hi-read = back y.hi (size y.hi (omega (arith, e.most)) (omega (arith, upper-least y e)))
+  hi-read = back y.hi (size y.hi (omega (arith, e.most)) (omega (arith, upper_least y e)))
 
   lo-read : R y.lo ≡ y.lo
   lo-read = back y.lo (size y.lo (omega (arith, e.ordered.ordered, e.most, e.least)) (omega (arith, e.least)))
@@ -30,7 +30,7 @@ module _ (y : Log) (e : Exponent y) where
   wide_read = step wide (omega (arith, e.narrow.narrow))
 
 point-requires : tie.Need-point-requires
-point-requires c κs = let e = c.before.requires in rw (hi-read _ e) (e.most, upper-least _ e)
+point-requires c κs = let e = c.before.requires in rw (hi-read _ e) (e.most, upper_least _ e)
 
 sub-d : tie.Need-overflow-sub-d
 sub-d c = let e = c.before.before.before.before.requires in rw (wide _ e) (record { sfits = omega (arith, e.narrow.narrow) })

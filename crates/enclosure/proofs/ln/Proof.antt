@@ -3,7 +3,7 @@ use Prim.Native.Nat.{◌+◌, ◌^◌, ◌≤◌, ◌<◌}
 use native.Mathlib.Omega.{arith}
 use borrow.Author.Rules.{rules}
 use Rattle.signed.specs.Reading.{back}
-use Rattle.enclosure.proofs.LnInterval.{word_fits, unbiased-fits, logarithm}
+use Rattle.enclosure.proofs.LnInterval.{word_fits, unbiased_fits, logarithm}
 use Rattle.enclosure.proofs.ln.Statement.{statement}
 use Rattle.enclosure.proofs.ln.Tie as tie
 
@@ -38,7 +38,7 @@ returns c =
     let k = fits s in
     let lo = c.before.unbiased.ensures in
     let hi = c.unbiased2.ensures in
-    rw (back c.before.unbiased.result (unbiased-fits _ lo (omega (arith, k.1))), back c.unbiased2.result (unbiased-fits _ hi (omega (arith, k.1))))
+    rw (back c.before.unbiased.result (unbiased_fits _ lo (omega (arith, k.1))), back c.unbiased2.result (unbiased_fits _ hi (omega (arith, k.1))))
     (logarithm _ _ _ _ _ _ s.before.before.requires s.before.point.ensures s.slack.ensures (omega (arith, k.0)) (omega arith) lo hi)
 
 pub ln-spec : {M : Type 1} → statement M

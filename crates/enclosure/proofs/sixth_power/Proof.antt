@@ -1,5 +1,5 @@
 -- `enclosure::sixth_power` meets its contract. Assumes nothing.
-use Rattle.enclosure.proofs.Sixths.{loggable, scalable, exponent, sixth-power}
+use Rattle.enclosure.proofs.Sixths.{loggable, scalable, exponent, sixth_power}
 use Rattle.enclosure.proofs.sixth_power.Statement.{statement}
 use Rattle.enclosure.proofs.sixth_power.Tie as tie
 
@@ -13,7 +13,7 @@ expo-requires : tie.Need-expo-requires
 expo-requires c κs = let l = c.before in exponent l.before.requires l.ln.ensures c.sixths.ensures
 
 returns : tie.Need-returns
-returns c = let l = c.before.before in sixth-power l.before.requires l.ln.ensures c.before.sixths.ensures c.expo.ensures
+returns c = let l = c.before.before in sixth_power l.before.requires l.ln.ensures c.before.sixths.ensures c.expo.ensures
 
 pub sixth-power-spec : {M : Type 1} → statement M
 sixth-power-spec = tie.close (tie.spec ln-requires sixths-requires expo-requires returns)

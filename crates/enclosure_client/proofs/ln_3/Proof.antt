@@ -1,8 +1,8 @@
 -- `enclosure_client::ln_3` meets its contract. Assumes nothing.
 use native.Mathlib.Omega.{arith}
 use borrow.Author.Rules.{rules}
-use Rattle.span.specs.Enclosing.{divisor, whole-encloses}
-use Rattle.enclosure.specs.Enclosing.{logarithm-encloses}
+use Rattle.span.specs.Enclosing.{divisor, whole_encloses}
+use Rattle.enclosure.specs.Enclosing.{logarithm_encloses}
 use Rattle.enclosure_client.proofs.ln_3.Statement.{statement}
 use Rattle.enclosure_client.proofs.ln_3.Tie as tie
 
@@ -20,7 +20,7 @@ returns c =
     let r = c.ln.ensures in
     let w = r.width 2 t.width (omega arith) in
     record {
-      encloses = λ n h. logarithm-encloses r h (whole-encloses t n);
+      encloses = λ n h. logarithm_encloses r h (whole_encloses t n);
       narrow = record { narrow = omega (arith, w.narrow) };
     }
 

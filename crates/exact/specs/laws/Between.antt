@@ -1,19 +1,19 @@
 -- From an interval of fractions that holds an exact value to whole numbers around it. Assumes nothing.
 use Rattle.std.specs.Prelude.{ℕ, ℤ, pos}
 use Rattle.std.proofs.Common.{arith}
-use Rattle.exact.specs.Fraction.{Frac, ◌⊑◌, zeroF, ◌⊠◌}
+use Rattle.exact.specs.Fraction.{Frac, ◌⊑◌, zero_f, ◌⊠◌}
 use Rattle.exact.specs.Bracket.{Bracket}
 use Rattle.exact.specs.Formula.{Formula}
 use Rattle.exact.specs.Holding.{Holds}
 use Rattle.exact.specs.Between.{whole_z, times, ExactBetween}
-use Rattle.exact.specs.laws.Frac.{scale-mono, ⊑_trans}
-use Rattle.exact.specs.laws.Meeting.{any-two-meet}
-use Rattle.exact.specs.laws.OneValue.{holds-closes}
+use Rattle.exact.specs.laws.Frac.{scale_mono, ⊑_trans}
+use Rattle.exact.specs.laws.Meeting.{any_two_meet}
+use Rattle.exact.specs.laws.OneValue.{holds_closes}
 
 -- multiplied by k, an order stays
-pub times-mono : (k : ℕ) {a b : Frac} → a ⊑ b → whole_z (pos k) ⊠ a ⊑ whole_z (pos k) ⊠ b
-unfolding zeroF whole_z
-times-mono k h = scale-mono (record { cross = omega arith }) h
+pub times_mono : (k : ℕ) {a b : Frac} → a ⊑ b → whole_z (pos k) ⊠ a ⊑ whole_z (pos k) ⊠ b
+unfolding zero_f whole_z
+times_mono k h = scale_mono (record { cross = omega arith }) h
 
 -- l and u lie around k times the interval
 pub between
@@ -25,11 +25,11 @@ pub between
 unfolding times
 between k {x = x} h below above =
     record {
-      ordered = ⊑_trans below (⊑_trans (times-mono k h.ordered) above);
+      ordered = ⊑_trans below (⊑_trans (times_mono k h.ordered) above);
       meets = λ n o B e.
           let m = h.meets n o B e in
-          record { first = ⊑_trans below (times-mono k m.first); second = ⊑_trans (times-mono k m.second) above };
+          record { first = ⊑_trans below (times_mono k m.first); second = ⊑_trans (times_mono k m.second) above };
       there = h.there;
-      agree = any-two-meet x;
-      closes = holds-closes h;
+      agree = any_two_meet x;
+      closes = holds_closes h;
     }

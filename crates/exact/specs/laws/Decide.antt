@@ -4,19 +4,19 @@ use Rattle.std.proofs.Math.Logic.{Dec·and}
 use Rattle.std.proofs.Math.Decide.{dec_le}
 use Rattle.exact.specs.Fraction.{Ratio, Above0, Frac, ◌⊑◌, Positive}
 
-unfoldable pub decAbove0 : (x : Ratio) → Dec (Above0 x)
-decAbove0 x = elim (dec_le 1 x.num) [ yes h ↦ yes (record { above = h }) | no h ↦ no (λ l. h l.above) ]
+unfoldable pub dec_above0 : (x : Ratio) → Dec (Above0 x)
+dec_above0 x = elim (dec_le 1 x.num) [ yes h ↦ yes (record { above = h }) | no h ↦ no (λ l. h l.above) ]
 
 unfoldable pub dec_f : (x y : Frac) → Dec (x ⊑ y)
 dec_f x y =
     elim (dec_le (x.plus * y.den + y.minus * x.den) (y.plus * x.den + x.minus * y.den))
     [ yes h ↦ yes (record { cross = h }) | no h ↦ no (λ l. h l.cross) ]
 
-unfoldable pub decPositive : (x : Frac) → Dec (Positive x)
-decPositive x = elim (dec_le (suc x.minus) x.plus) [ yes h ↦ yes (record { above = h }) | no h ↦ no (λ l. h l.above) ]
+unfoldable pub dec_positive : (x : Frac) → Dec (Positive x)
+dec_positive x = elim (dec_le (suc x.minus) x.plus) [ yes h ↦ yes (record { above = h }) | no h ↦ no (λ l. h l.above) ]
 
-unfoldable pub decPositives : (x y : Frac) → Dec (Positive x × Positive y)
-decPositives x y = Dec·and (decPositive x) (decPositive y)
+unfoldable pub dec_positives : (x y : Frac) → Dec (Positive x × Positive y)
+dec_positives x y = Dec·and (dec_positive x) (dec_positive y)
 
 -- Laws of what a decision chooses, by cases
 
@@ -35,7 +35,7 @@ decided₂ R (no h) (yes k) a b c z = c h k
 decided₂ R (no h) (no k) a b c z = z h k
 
 -- one decision that chooses twice
-pub decided-both : {P C D : Type 0} {f : P → C} {g : ¬ P → C} {u : P → D} {v : ¬ P → D} (R : C → D → Type 0) (d : Dec P)
+pub decided_both : {P C D : Type 0} {f : P → C} {g : ¬ P → C} {u : P → D} {v : ¬ P → D} (R : C → D → Type 0) (d : Dec P)
     → ((h : P) → R (f h) (u h)) → ((h : ¬ P) → R (g h) (v h)) → R (elim d [ yes h ↦ f h | no h ↦ g h ]) (elim d [ yes h ↦ u h | no h ↦ v h ])
-decided-both R (yes h) a b = a h
-decided-both R (no h) a b = b h
+decided_both R (yes h) a b = a h
+decided_both R (no h) a b = b h

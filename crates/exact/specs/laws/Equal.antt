@@ -2,7 +2,7 @@
 use Rattle.std.specs.Prelude.{◌*◌}
 use Rattle.std.proofs.Common.{mul-pos, le_of_mul-le-mul_right, arith}
 use Rattle.exact.specs.Fraction.{Ratio, ◌≼◌, ◌≈◌, Above0, ◌⊕◌, ◌⊗◌}
-use Rattle.exact.specs.laws.Ratio.{≼_trans, to≼, from≼, ⊕-mono, ⊗-mono, ⊗-comm}
+use Rattle.exact.specs.laws.Ratio.{≼_trans, to≼, from≼, ⊕-mono, ⊗_mono, ⊗_comm}
 
 pub both≼ : {x y : Ratio} → x ≼ y → y ≼ x → x ≈ y
 both≼ h k = omega arith
@@ -19,19 +19,19 @@ pub ≈-trans : {x y z : Ratio} → x ≈ y → y ≈ z → x ≈ z
 pub ⊕-cong : {a b c d : Ratio} → a ≈ b → c ≈ d → a ⊕ c ≈ b ⊕ d
 ⊕-cong h k = both≼ (⊕-mono (to≼ h) (to≼ k)) (⊕-mono (from≼ h) (from≼ k))
 
-pub ⊗-cong : {a b c d : Ratio} → a ≈ b → c ≈ d → a ⊗ c ≈ b ⊗ d
-⊗-cong h k = both≼ (⊗-mono (to≼ h) (to≼ k)) (⊗-mono (from≼ h) (from≼ k))
+pub ⊗_cong : {a b c d : Ratio} → a ≈ b → c ≈ d → a ⊗ c ≈ b ⊗ d
+⊗_cong h k = both≼ (⊗_mono (to≼ h) (to≼ k)) (⊗_mono (from≼ h) (from≼ k))
 
 -- a factor above 0 cancels
-pub ⊗-cancel : {x y : Ratio} (z : Ratio) → Above0 z → z ⊗ x ≼ z ⊗ y → x ≼ y
+pub ⊗_cancel : {x y : Ratio} (z : Ratio) → Above0 z → z ⊗ x ≼ z ⊗ y → x ≼ y
 unfolding ◌⊗◌
-⊗-cancel {x} {y} z h l =
+⊗_cancel {x} {y} z h l =
     record {
       cross = le_of_mul-le-mul_right {k = z.num * z.den} (omega (arith, l.cross)) (mul-pos h.above z.positive);
     }
 
 pub ≈-cancel : {x y : Ratio} (z : Ratio) → Above0 z → z ⊗ x ≈ z ⊗ y → x ≈ y
-≈-cancel z h e = both≼ (⊗-cancel z h (to≼ e)) (⊗-cancel z h (from≼ e))
+≈-cancel z h e = both≼ (⊗_cancel z h (to≼ e)) (⊗_cancel z h (from≼ e))
 
-pub ⊗-cancel-right : {x y : Ratio} (z : Ratio) → Above0 z → x ⊗ z ≼ y ⊗ z → x ≼ y
-⊗-cancel-right {x} {y} z h l = ⊗-cancel z h (≼_trans (to≼ (⊗-comm z x)) (≼_trans l (to≼ (⊗-comm y z))))
+pub ⊗_cancel_right : {x y : Ratio} (z : Ratio) → Above0 z → x ⊗ z ≼ y ⊗ z → x ≼ y
+⊗_cancel_right {x} {y} z h l = ⊗_cancel z h (≼_trans (to≼ (⊗_comm z x)) (≼_trans l (to≼ (⊗_comm y z))))

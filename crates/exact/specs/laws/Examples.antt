@@ -5,14 +5,14 @@ use Rattle.std.proofs.Math.Logic.{Dec·and}
 use Rattle.std.proofs.Math.Option.{Option, none, some}
 use Rattle.std.proofs.Math.Decide.{dec_le}
 use Rattle.std.proofs.Common.{arith}
-use Rattle.exact.specs.Fraction.{whole, ◌⊕◌, ◌⊗◌, ◌⊖◌, recip, power, sum, Frac, ofRatio, zeroF, oneF, magnitude, ◌⊞◌, neg, ◌⊟◌, ◌⊠◌, inverse}
-use Rattle.exact.specs.Bracket.{smaller, larger, Bracket, Meet, overPairs, quotients}
-use Rattle.exact.specs.Series.{oneOver, even, lnTerm, gap, lnTail, seriesLower, seriesUpper, climb, exponent, fraction, argument, third, factorial, expTerm, expLower, expTail, expUpper}
-use Rattle.exact.specs.LnExp.{ln2Lower, ln2Upper, lnLower, lnUpper, lnLowerAt, lnUpperAt, expUpperOf, oneOverOf, expLowerAt, expUpperAt}
-use Rattle.exact.specs.Formula.{Formula, const, sub, div, least, ln, exp, wholePower, powerOf, bracketAt, lift, ◌>>◌, quotientB, lnB, expB}
-use Rattle.exact.specs.laws.Containment.{inside, inside-true}
+use Rattle.exact.specs.Fraction.{whole, ◌⊕◌, ◌⊗◌, ◌⊖◌, recip, power, sum, Frac, of_ratio, zero_f, one_f, magnitude, ◌⊞◌, neg, ◌⊟◌, ◌⊠◌, inverse}
+use Rattle.exact.specs.Bracket.{smaller, larger, Bracket, Meet, over_pairs, quotients}
+use Rattle.exact.specs.Series.{one_over, even, ln_term, gap, ln_tail, series_lower, series_upper, climb, exponent, fraction, argument, third, factorial, exp_term, exp_lower, exp_tail, exp_upper}
+use Rattle.exact.specs.LnExp.{ln2_lower, ln2_upper, ln_lower, ln_upper, ln_lower_at, ln_upper_at, exp_upper_of, one_over_of, exp_lower_at, exp_upper_at}
+use Rattle.exact.specs.Formula.{Formula, const, sub, div, least, ln, exp, whole_power, power_of, bracket_at, lift, ◌>>◌, quotient_b, ln_b, exp_b}
+use Rattle.exact.specs.laws.Containment.{inside, inside_true}
 use Rattle.exact.specs.laws.Tests.{both_true}
-use Rattle.exact.specs.laws.Decide.{decAbove0, dec_f, decPositive, decPositives}
+use Rattle.exact.specs.laws.Decide.{dec_above0, dec_f, dec_positive, dec_positives}
 use Rattle.exact.specs.laws.Pairs.{◌⊆◌}
 
 -- p/q, for q ≥ 1
@@ -64,8 +64,8 @@ table =
     ∷ has (div (number 1 1) little) 2 (frac 1620 43) (frac 81 2)
     ∷ has (div straddling (exp (number 1 1))) 1 (neg (frac 1 75)) (frac 13 900)
     ∷ lacks (ln little) 1
-    ∷ has (wholePower straddling 2) 1 (neg (frac 13 67500)) (frac 169 810000)
-    ∷ has (powerOf (frac 1 2) (number 4 1)) 2 (frac 137 81) (frac 24284569 12107880)
+    ∷ has (whole_power straddling 2) 1 (neg (frac 13 67500)) (frac 169 810000)
+    ∷ has (power_of (frac 1 2) (number 4 1)) 2 (frac 137 81) (frac 24284569 12107880)
     ∷ []
 
 -- the two are there and have ends of the same value, or neither is there
@@ -77,7 +77,7 @@ Agree (some A) (some I) = (A ⊆ I) × (I ⊆ A)
 
 abbrev Worked : List Example → Type 0
 Worked [] = Unit {0}
-Worked (e ∷ es) = Agree (bracketAt e.formula e.place) e.bracket × Worked es
+Worked (e ∷ es) = Agree (bracket_at e.formula e.place) e.bracket × Worked es
 
 -- The computation
 
@@ -87,28 +87,28 @@ agrees none (some I) = false
 agrees (some A) none = false
 agrees (some A) (some I) = inside (some A) I && inside (some I) A
 
-agrees-true : (x y : Option Bracket) → agrees x y ≡ true → Agree x y
+agrees_true : (x y : Option Bracket) → agrees x y ≡ true → Agree x y
 unfolding agrees
-agrees-true none none e = tt
-agrees-true none (some I) e = false≢true e
-agrees-true (some A) none e = false≢true e
-agrees-true (some A) (some I) e =
+agrees_true none none e = tt
+agrees_true none (some I) e = false≢true e
+agrees_true (some A) none e = false≢true e
+agrees_true (some A) (some I) e =
     let b = both_true _ _ e in
-    (inside-true (some A) I b.0, inside-true (some I) A b.1)
+    (inside_true (some A) I b.0, inside_true (some I) A b.1)
 
-allAgree : List Example → Bool
-allAgree [] = true
-allAgree (e ∷ es) = agrees (bracketAt e.formula e.place) e.bracket && allAgree es
+all_agree : List Example → Bool
+all_agree [] = true
+all_agree (e ∷ es) = agrees (bracket_at e.formula e.place) e.bracket && all_agree es
 
-all_true : (es : List Example) → allAgree es ≡ true → Worked es
-unfolding allAgree
+all_true : (es : List Example) → all_agree es ≡ true → Worked es
+unfolding all_agree
 all_true [] e = tt
 all_true (x ∷ xs) e =
     let b = both_true _ _ e in
-    (agrees-true _ _ b.0, all_true xs b.1)
+    (agrees_true _ _ b.0, all_true xs b.1)
 
-computed : allAgree table ≡ true
-unfolding table has lacks little straddling number frac allAgree agrees inside bracketAt lift ◌>>◌ quotientB lnB expB overPairs quotients smaller larger dec_f decPositive decPositives Dec·and decAbove0 dec_le lnLowerAt lnUpperAt lnLower lnUpper ln2Lower ln2Upper exponent climb fraction argument third seriesLower seriesUpper lnTerm lnTail gap oneOver even expLowerAt expUpperAt expUpperOf oneOverOf expLower expUpper expTerm expTail factorial power sum recip whole ◌⊕◌ ◌⊗◌ ◌⊖◌ ofRatio zeroF oneF magnitude ◌⊞◌ neg ◌⊟◌ ◌⊠◌ inverse
+computed : all_agree table ≡ true
+unfolding table has lacks little straddling number frac all_agree agrees inside bracket_at lift ◌>>◌ quotient_b ln_b exp_b over_pairs quotients smaller larger dec_f dec_positive dec_positives Dec·and dec_above0 dec_le ln_lower_at ln_upper_at ln_lower ln_upper ln2_lower ln2_upper exponent climb fraction argument third series_lower series_upper ln_term ln_tail gap one_over even exp_lower_at exp_upper_at exp_upper_of one_over_of exp_lower exp_upper exp_term exp_tail factorial power sum recip whole ◌⊕◌ ◌⊗◌ ◌⊖◌ of_ratio zero_f one_f magnitude ◌⊞◌ neg ◌⊟◌ ◌⊠◌ inverse
 computed = refl
 
 worked : Worked table
@@ -116,17 +116,17 @@ worked = all_true table computed
 
 -- Meeting: [0, 1] touches [1, 2] and lies apart from [2, 3]
 
-from-to : ℕ → ℕ → Bracket
-from-to l h = record { lo = frac l 1; hi = frac h 1 }
+from_to : ℕ → ℕ → Bracket
+from_to l h = record { lo = frac l 1; hi = frac h 1 }
 
-touching : Meet (from-to 0 1) (from-to 1 2)
-unfolding from-to frac
+touching : Meet (from_to 0 1) (from_to 1 2)
+unfolding from_to frac
 touching = record { first = record { cross = omega arith }; second = record { cross = omega arith } }
 
-apart : Meet (from-to 0 1) (from-to 2 3) → ⊥
-unfolding from-to frac
+apart : Meet (from_to 0 1) (from_to 2 3) → ⊥
+unfolding from_to frac
 apart m = omega (arith, m.second.cross)
 
-apart-turned : Meet (from-to 2 3) (from-to 0 1) → ⊥
-unfolding from-to frac
-apart-turned m = omega (arith, m.first.cross)
+apart_turned : Meet (from_to 2 3) (from_to 0 1) → ⊥
+unfolding from_to frac
+apart_turned m = omega (arith, m.first.cross)

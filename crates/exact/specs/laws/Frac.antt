@@ -4,7 +4,7 @@
 use Rattle.std.specs.Prelude.{ℕ, ◌+◌, ◌*◌, ◌-◌, ◌≤◌, ◌<◌, ◌≡◌}
 use Rattle.std.proofs.Common.{ap, mul-le-mul_right, le_of_mul-le-mul_right, arith}
 use Rattle.std.proofs.Math.Decide.{dec_le}
-use Rattle.exact.specs.Fraction.{Frac, Positive, ◌⊑◌, ◌⊞◌, ◌⊟◌, ◌⊠◌, inverse, neg, zeroF}
+use Rattle.exact.specs.Fraction.{Frac, Positive, ◌⊑◌, ◌⊞◌, ◌⊟◌, ◌⊠◌, inverse, neg, zero_f}
 use Rattle.exact.specs.Bracket.{larger, smaller}
 use Rattle.exact.specs.laws.Decide.{dec_f, decided}
 
@@ -30,8 +30,8 @@ pub ⊑-total : (x y : Frac) → ¬ (x ⊑ y) → y ⊑ x
     go (yes l) = l
     go (no l) = absurd (h (record { cross = omega arith }))
 
-pub positive-mono : {x y : Frac} → Positive x → x ⊑ y → Positive y
-positive-mono {x} {y} h l = record { above = go (dec_le y.plus y.minus) }
+pub positive_mono : {x y : Frac} → Positive x → x ⊑ y → Positive y
+positive_mono {x} {y} h l = record { above = go (dec_le y.plus y.minus) }
   where
     never : y.plus ≤ y.minus → ⊥
     never k =
@@ -60,13 +60,13 @@ unfolding ◌⊞◌
 pub ⊞-mono : {a b c d : Frac} → a ⊑ b → c ⊑ d → a ⊞ c ⊑ b ⊞ d
 ⊞-mono {a} {b} {c} {d} h k = ⊑_trans (⊞-left c h) (⊞-right b k)
 
-pub neg-anti : {x y : Frac} → x ⊑ y → neg y ⊑ neg x
+pub neg_anti : {x y : Frac} → x ⊑ y → neg y ⊑ neg x
 unfolding neg
-neg-anti h = omega arith
+neg_anti h = omega arith
 
 pub ⊟-mono : {a b c d : Frac} → a ⊑ b → d ⊑ c → a ⊟ c ⊑ b ⊟ d
 unfolding ◌⊟◌
-⊟-mono h k = ⊞-mono h (neg-anti k)
+⊟-mono h k = ⊞-mono h (neg_anti k)
 
 -- Products
 
@@ -81,28 +81,28 @@ unfolding ◌⊠◌
 ⊠-comm x y = omega arith
 
 -- multiplying by z ≥ 0
-pub ⊠-mono : {x y : Frac} (z : Frac) → zeroF ⊑ z → x ⊑ y → x ⊠ z ⊑ y ⊠ z
-unfolding zeroF ◌⊠◌
+pub ⊠-mono : {x y : Frac} (z : Frac) → zero_f ⊑ z → x ⊑ y → x ⊠ z ⊑ y ⊠ z
+unfolding zero_f ◌⊠◌
 ⊠-mono {x} {y} z n h =
     omega (arith, mul-le-mul_right z.den (rearrange _ _ z.minus z.plus h.cross (omega arith)))
 
-pub scale-mono : {c x y : Frac} → zeroF ⊑ c → x ⊑ y → c ⊠ x ⊑ c ⊠ y
-scale-mono {c} {x} {y} z l = ⊑_trans (⊠-comm c x) (⊑_trans (⊠-mono c z l) (⊠-comm y c))
+pub scale_mono : {c x y : Frac} → zero_f ⊑ c → x ⊑ y → c ⊠ x ⊑ c ⊠ y
+scale_mono {c} {x} {y} z l = ⊑_trans (⊠-comm c x) (⊑_trans (⊠-mono c z l) (⊠-comm y c))
 
 -- 0 ≤ a ≤ p and 0 ≤ b ≤ q give a b ≤ p q
-pub product-mono : {a p b q : Frac} → zeroF ⊑ b → zeroF ⊑ p → a ⊑ p → b ⊑ q → a ⊠ b ⊑ p ⊠ q
-product-mono {a} {p} {b} {q} z w h k =
-    ⊑_trans (⊠-mono b z h) (scale-mono w k)
+pub product_mono : {a p b q : Frac} → zero_f ⊑ b → zero_f ⊑ p → a ⊑ p → b ⊑ q → a ⊠ b ⊑ p ⊠ q
+product_mono {a} {p} {b} {q} z w h k =
+    ⊑_trans (⊠-mono b z h) (scale_mono w k)
 
 -- multiplying by z ≤ 0
-pub ⊠-anti : {x y : Frac} (z : Frac) → z ⊑ zeroF → x ⊑ y → y ⊠ z ⊑ x ⊠ z
-unfolding zeroF ◌⊠◌
+pub ⊠-anti : {x y : Frac} (z : Frac) → z ⊑ zero_f → x ⊑ y → y ⊠ z ⊑ x ⊠ z
+unfolding zero_f ◌⊠◌
 ⊠-anti {x} {y} z n h =
     omega (arith, mul-le-mul_right z.den (rearrange _ _ z.plus z.minus h.cross (omega arith)))
 
-pub inverse-anti : {x y : Frac} (h : Positive x) (k : Positive y) → x ⊑ y → inverse y k ⊑ inverse x h
+pub inverse_anti : {x y : Frac} (h : Positive x) (k : Positive y) → x ⊑ y → inverse y k ⊑ inverse x h
 unfolding inverse
-inverse-anti {x} {y} h k l =
+inverse_anti {x} {y} h k l =
     record { cross = go (x.plus - x.minus) (y.plus - y.minus) (omega arith) (omega arith) }
   where
     go : (i j : ℕ) → x.plus ≡ x.minus + i → y.plus ≡ y.minus + j → y.den * i + 0 * j ≤ x.den * j + 0 * i
@@ -110,28 +110,28 @@ inverse-anti {x} {y} h k l =
 
 -- The smaller and the larger of two
 
-pub smaller-case : (P : Frac → Type 0) (x y : Frac) → (x ⊑ y → P x) → (y ⊑ x → P y) → P (smaller x y)
+pub smaller_case : (P : Frac → Type 0) (x y : Frac) → (x ⊑ y → P x) → (y ⊑ x → P y) → P (smaller x y)
 unfolding smaller
-smaller-case P x y f g = decided P (dec_f x y) f (λ h. g (⊑-total x y h))
+smaller_case P x y f g = decided P (dec_f x y) f (λ h. g (⊑-total x y h))
 
-larger-case : (P : Frac → Type 0) (x y : Frac) → (x ⊑ y → P y) → (y ⊑ x → P x) → P (larger x y)
+larger_case : (P : Frac → Type 0) (x y : Frac) → (x ⊑ y → P y) → (y ⊑ x → P x) → P (larger x y)
 unfolding larger
-larger-case P x y f g = decided P (dec_f x y) f (λ h. g (⊑-total x y h))
+larger_case P x y f g = decided P (dec_f x y) f (λ h. g (⊑-total x y h))
 
-pub smaller-left : (x y : Frac) → smaller x y ⊑ x
-smaller-left x y = smaller-case (λ z. z ⊑ x) x y (λ h. ⊑_refl x) (λ h. h)
+pub smaller_left : (x y : Frac) → smaller x y ⊑ x
+smaller_left x y = smaller_case (λ z. z ⊑ x) x y (λ h. ⊑_refl x) (λ h. h)
 
-pub smaller-right : (x y : Frac) → smaller x y ⊑ y
-smaller-right x y = smaller-case (λ z. z ⊑ y) x y (λ h. h) (λ h. ⊑_refl y)
+pub smaller_right : (x y : Frac) → smaller x y ⊑ y
+smaller_right x y = smaller_case (λ z. z ⊑ y) x y (λ h. h) (λ h. ⊑_refl y)
 
-pub larger-left : (x y : Frac) → x ⊑ larger x y
-larger-left x y = larger-case (λ z. x ⊑ z) x y (λ h. h) (λ h. ⊑_refl x)
+pub larger_left : (x y : Frac) → x ⊑ larger x y
+larger_left x y = larger_case (λ z. x ⊑ z) x y (λ h. h) (λ h. ⊑_refl x)
 
-pub larger-right : (x y : Frac) → y ⊑ larger x y
-larger-right x y = larger-case (λ z. y ⊑ z) x y (λ h. ⊑_refl y) (λ h. h)
+pub larger_right : (x y : Frac) → y ⊑ larger x y
+larger_right x y = larger_case (λ z. y ⊑ z) x y (λ h. ⊑_refl y) (λ h. h)
 
-pub smaller-glb : {x y z : Frac} → z ⊑ x → z ⊑ y → z ⊑ smaller x y
-smaller-glb {x} {y} {z} h k = smaller-case (λ w. z ⊑ w) x y (λ l. h) (λ l. k)
+pub smaller_glb : {x y z : Frac} → z ⊑ x → z ⊑ y → z ⊑ smaller x y
+smaller_glb {x} {y} {z} h k = smaller_case (λ w. z ⊑ w) x y (λ l. h) (λ l. k)
 
-pub larger-lub : {x y z : Frac} → x ⊑ z → y ⊑ z → larger x y ⊑ z
-larger-lub {x} {y} {z} h k = larger-case (λ w. w ⊑ z) x y (λ l. k) (λ l. h)
+pub larger_lub : {x y z : Frac} → x ⊑ z → y ⊑ z → larger x y ⊑ z
+larger_lub {x} {y} {z} h k = larger_case (λ w. w ⊑ z) x y (λ l. k) (λ l. h)

@@ -11,12 +11,12 @@ pub record Scaled (D : ℕ) (x : Ratio) : Type 0 where
   pub exact : x.num * D ≡ parts * x.den
 
 infixl 60 ◌+ˢ◌
-pub sum-exact : {D : ℕ} {x y : Ratio} (p : Scaled D x) (q : Scaled D y) → (x ⊕ y).num * D ≡ (p.parts + q.parts) * (x ⊕ y).den
+pub sum_exact : {D : ℕ} {x y : Ratio} (p : Scaled D x) (q : Scaled D y) → (x ⊕ y).num * D ≡ (p.parts + q.parts) * (x ⊕ y).den
 unfolding ◌⊕◌
-sum-exact {D} {x} {y} p q = omega (arith, ap (λ i. i * y.den) p.exact, ap (λ i. i * x.den) q.exact)
+sum_exact {D} {x} {y} p q = omega (arith, ap (λ i. i * y.den) p.exact, ap (λ i. i * x.den) q.exact)
 
 abbrev pub ◌+ˢ◌ : {D : ℕ} {x y : Ratio} → Scaled D x → Scaled D y → Scaled D (x ⊕ y)
-p +ˢ q = record { parts = p.parts + q.parts; exact = sum-exact p q }
+p +ˢ q = record { parts = p.parts + q.parts; exact = sum_exact p q }
 
 -- from an order of fractions to one of numbers, and back
 pub read : {D : ℕ} {x y : Ratio} (p : Scaled D x) (q : Scaled D y) → x ≼ y → p.parts ≤ q.parts
@@ -39,10 +39,10 @@ pub common : List Ratio → ℕ
 common [] = 1
 common (x ∷ xs) = x.den * common xs
 
-pub common-pos : (xs : List Ratio) → 0 < common xs
+pub common_pos : (xs : List Ratio) → 0 < common xs
 unfolding common
-common-pos [] = omega arith
-common-pos (x ∷ xs) = mul-pos x.positive (common-pos xs)
+common_pos [] = omega arith
+common_pos (x ∷ xs) = mul-pos x.positive (common_pos xs)
 
 -- a proof of G that takes each fraction of the list in D-ths
 abbrev pub Given : ℕ → List Ratio → Type 0 → Type 0
@@ -70,4 +70,4 @@ supply all (x ∷ xs) G f g = supply all xs G (λ y i. f y (later i)) (g (scaled
 
 -- a goal that holds for every denominator at which the fractions are whole numbers of parts holds
 pub linear : (xs : List Ratio) {G : Type 0} → ((D : ℕ) → 0 < D → Given D xs G) → G
-linear xs {G} g = supply xs xs G (λ x i. i) (g (common xs) (common-pos xs))
+linear xs {G} g = supply xs xs G (λ x i. i) (g (common xs) (common_pos xs))

@@ -6,85 +6,85 @@ use Rattle.std.proofs.Common.{ap, mul-pos, mul-le-mul_right, arith}
 use Rattle.std.proofs.Math.Nat.{le_dest}
 use Rattle.std.proofs.Math.Decide.{dec_le}
 use Rattle.exact.specs.Fraction.{Ratio, ◌≼◌, Above0, whole, ◌⊕◌, ◌⊗◌, ◌⊖◌, recip}
-use Rattle.exact.specs.Series.{expLower, oneOver}
-use Rattle.exact.specs.LnExp.{lnLower}
-use Rattle.exact.specs.laws.Addition.{sum-below-product}
-use Rattle.exact.specs.laws.Exp.{exp-lower-mono}
-use Rattle.exact.specs.laws.ExpSpread.{near-zero}
-use Rattle.exact.specs.laws.Ln.{ln-lower-mono}
-use Rattle.exact.specs.laws.Octaves.{ln-moves}
-use Rattle.exact.specs.laws.Ratio.{shift, to≼, ≼_refl, ≼_trans, ⊕-mono, ⊗-mono}
-use Rattle.exact.specs.laws.Reduction.{most-zero}
-use Rattle.exact.specs.laws.Spread.{ln-one}
+use Rattle.exact.specs.Series.{exp_lower, one_over}
+use Rattle.exact.specs.LnExp.{ln_lower}
+use Rattle.exact.specs.laws.Addition.{sum_below_product}
+use Rattle.exact.specs.laws.Exp.{exp_lower_mono}
+use Rattle.exact.specs.laws.ExpSpread.{near_zero}
+use Rattle.exact.specs.laws.Ln.{ln_lower_mono}
+use Rattle.exact.specs.laws.Octaves.{ln_moves}
+use Rattle.exact.specs.laws.Ratio.{shift, to≼, ≼_refl, ≼_trans, ⊕-mono, ⊗_mono}
+use Rattle.exact.specs.laws.Reduction.{most_zero}
+use Rattle.exact.specs.laws.Spread.{ln_one}
 
 -- 1 + i/m, m = p + 1
 step : ℕ → ℕ → Ratio
 step p i = record { num = suc p + i; den = suc p; positive = omega arith }
 
-step-one : (p i : ℕ) → whole 1 ≼ step p i
+step_one : (p i : ℕ) → whole 1 ≼ step p i
 unfolding step whole
-step-one p i = omega arith
+step_one p i = omega arith
 
 step_start : (p : ℕ) → step p 0 ≼ whole 1
 unfolding step whole
 step_start p = omega arith
 
-step-above : (p i : ℕ) → Above0 (step p i)
+step_above : (p i : ℕ) → Above0 (step p i)
 unfolding step
-step-above p i = omega arith
+step_above p i = omega arith
 
-step-grows : (p i : ℕ) → step p i ≼ step p (suc i)
+step_grows : (p i : ℕ) → step p i ≼ step p (suc i)
 unfolding step
-step-grows p i = omega (arith, mul-le-mul_right (suc p) (le-suc (suc p + i)))
+step_grows p i = omega (arith, mul-le-mul_right (suc p) (le-suc (suc p + i)))
   where
     le-suc : (n : ℕ) → n ≤ suc n
     le-suc n = omega arith
 
-step-next : (p i : ℕ) (z : 0 < suc p) → step p (suc i) ≼ step p i ⊕ oneOver (suc p) z
-unfolding step oneOver ◌⊕◌
-step-next p i z = omega arith
+step_next : (p i : ℕ) (z : 0 < suc p) → step p (suc i) ≼ step p i ⊕ one_over (suc p) z
+unfolding step one_over ◌⊕◌
+step_next p i z = omega arith
 
 -- what ln moves by
-moves-by : (p i : ℕ) (z : 0 < suc p) (y : 0 < suc (p + i)) → oneOver (suc p) z ⊗ recip (step p i) (step-above p i) ≼ oneOver (suc (p + i)) y
-unfolding step oneOver recip ◌⊗◌
-moves-by p i z y = omega arith
+moves_by : (p i : ℕ) (z : 0 < suc p) (y : 0 < suc (p + i)) → one_over (suc p) z ⊗ recip (step p i) (step_above p i) ≼ one_over (suc (p + i)) y
+unfolding step one_over recip ◌⊗◌
+moves_by p i z y = omega arith
 
 -- e^(1/(j+1)) j ≤ j + 1
-inverse-step : (j : ℕ) (y : 0 < suc j) (S : Ratio) → S ⊗ (whole 1 ⊖ oneOver (suc j) y) ≼ whole 1 → whole j ⊗ S ≼ whole (suc j)
-unfolding oneOver whole ◌⊗◌ ◌⊖◌
-inverse-step j y S h =
+inverse_step : (j : ℕ) (y : 0 < suc j) (S : Ratio) → S ⊗ (whole 1 ⊖ one_over (suc j) y) ≼ whole 1 → whole j ⊗ S ≼ whole (suc j)
+unfolding one_over whole ◌⊗◌ ◌⊖◌
+inverse_step j y S h =
     let e : 1 * suc j - 1 * 1 ≡ j = omega arith in
     let g : S.num * (1 * suc j - 1 * 1) * 1 ≤ 1 * (S.den * (1 * suc j)) = h.cross in
     let k = rw e at g in
     omega arith
 
-at-start : (S : Ratio) (p : ℕ) → S ≼ whole 1 → S ⊗ whole p ≼ whole (p + 0)
+at_start : (S : Ratio) (p : ℕ) → S ≼ whole 1 → S ⊗ whole p ≼ whole (p + 0)
 unfolding whole ◌⊗◌
-at-start S p h = omega (arith, mul-le-mul_right p h.cross)
+at_start S p h = omega (arith, mul-le-mul_right p h.cross)
 
-whole-suc : (p i : ℕ) → whole (suc (p + i)) ≼ whole (p + suc i)
+whole_suc : (p i : ℕ) → whole (suc (p + i)) ≼ whole (p + suc i)
 unfolding whole
-whole-suc p i = omega arith
+whole_suc p i = omega arith
 
 -- e^(ln (1 + i/m)) ≤ (m + i - 1)/(m - 1)
-climbs : (p i m n : ℕ) → expLower (lnLower (step p i) m) n ⊗ whole p ≼ whole (p + i)
+climbs : (p i m n : ℕ) → exp_lower (ln_lower (step p i) m) n ⊗ whole p ≼ whole (p + i)
 climbs p zero m n =
-    at-start _ p
-    (≼_trans (exp-lower-mono (≼_trans (ln-lower-mono (step p 0) (whole 1) (step-one p 0) (step_start p) m) (ln-one m)) n) (most-zero.all n))
+    at_start _ p
+    (≼_trans (exp_lower_mono (≼_trans (ln_lower_mono (step p 0) (whole 1) (step_one p 0) (step_start p) m) (ln_one m)) n) (most_zero.all n))
 climbs p (suc i) m n =
     let z : 0 < suc p = omega arith in
     let y : 0 < suc (p + i) = omega arith in
-    let l : lnLower (step p (suc i)) m ≼ lnLower (step p i) m ⊕ oneOver (suc (p + i)) y
-    = ≼_trans (ln-moves (step p i) (step p (suc i)) (oneOver (suc p) z) (step-one p i) (step-grows p i) (step-next p i z) (step-above p i) m)
-    (⊕-mono (≼_refl _) (moves-by p i z y)) in
-    ≼_trans (⊗-mono (≼_trans (exp-lower-mono l n) (sum-below-product _ _ n)) (≼_refl (whole p)))
+    let l : ln_lower (step p (suc i)) m ≼ ln_lower (step p i) m ⊕ one_over (suc (p + i)) y
+    = ≼_trans (ln_moves (step p i) (step p (suc i)) (one_over (suc p) z) (step_one p i) (step_grows p i) (step_next p i z) (step_above p i) m)
+    (⊕-mono (≼_refl _) (moves_by p i z y)) in
+    ≼_trans (⊗_mono (≼_trans (exp_lower_mono l n) (sum_below_product _ _ n)) (≼_refl (whole p)))
     (≼_trans (to≼ (shift _ _ (whole p)))
-    (≼_trans (⊗-mono (climbs p i m n) (≼_refl _))
-    (≼_trans (inverse-step (p + i) y _ (near-zero _ _ (≼_refl _) n)) (whole-suc p i))))
+    (≼_trans (⊗_mono (climbs p i m n) (≼_refl _))
+    (≼_trans (inverse_step (p + i) y _ (near_zero _ _ (≼_refl _) n)) (whole_suc p i))))
 
 -- a/d is 1 + i/m for m = p + 1 = d K
-pub steps-to : (a d K : ℕ) → 0 < d → 0 < K → d ≤ a → (p : ℕ) × (i : ℕ) × (suc p ≡ d * K) × (suc p + i ≡ a * K)
-steps-to a d K z y l =
+pub steps_to : (a d K : ℕ) → 0 < d → 0 < K → d ≤ a → (p : ℕ) × (i : ℕ) × (suc p ≡ d * K) × (suc p + i ≡ a * K)
+steps_to a d K z y l =
     let e : 1 ≤ d * K = mul-pos {m = d} z y in
     let u : (p : ℕ) × (1 + p ≡ d * K) = le_dest e in
     let w : (i : ℕ) × (d * K + i ≡ a * K) = le_dest (mul-le-mul_right K l) in
@@ -93,7 +93,7 @@ steps-to a d K z y l =
 -- for t = a/d and X/Y a sum: X/Y ≤ (a K - 1)/(d K - 1) for every K gives X/Y ≤ a/d
 limit : (a d X Y : ℕ) → ((p i : ℕ) → suc p ≡ d * suc X → suc p + i ≡ a * suc X → X * p ≤ (p + i) * Y) → 0 < d → d ≤ a → 0 < Y → X * d ≤ a * Y
 limit a d X Y h z l y =
-    let s = steps-to a d (suc X) z (omega arith) l in
+    let s = steps_to a d (suc X) z (omega arith) l in
     go s.0 s.1 s.2 s.3 (h s.0 s.1 s.2 s.3) (dec_le (X * d) (a * Y))
   where
     go : (p i : ℕ) → suc p ≡ d * suc X → suc p + i ≡ a * suc X → X * p ≤ (p + i) * Y → Dec (X * d ≤ a * Y) → X * d ≤ a * Y
@@ -102,9 +102,9 @@ limit a d X Y h z l y =
         let q : suc (a * Y) ≤ X * d = omega arith in
         absurd (omega (arith, mul-le-mul_right (suc X) q, ap (λ j. X * j) e, ap (λ j. j * Y) f))
 
-step-above-t : (t : Ratio) (p i K : ℕ) → suc p ≡ t.den * K → suc p + i ≡ t.num * K → t ≼ step p i
+step_above_t : (t : Ratio) (p i K : ℕ) → suc p ≡ t.den * K → suc p + i ≡ t.num * K → t ≼ step p i
 unfolding step
-step-above-t t p i K e f = record { cross = rw (f, e) (omega arith) }
+step_above_t t p i K e f = record { cross = rw (f, e) (omega arith) }
 
 pub one_below : (t : Ratio) → whole 1 ≼ t → t.den ≤ t.num
 unfolding whole
@@ -114,14 +114,14 @@ bounded : (S : Ratio) (p q : ℕ) → S ⊗ whole p ≼ whole q → S.num * p �
 unfolding whole ◌⊗◌
 bounded S p q h = omega arith
 
-pub exp-ln-below : (t : Ratio) → whole 1 ≼ t → (m n : ℕ) → expLower (lnLower t m) n ≼ t
-exp-ln-below t l m n =
+pub exp_ln_below : (t : Ratio) → whole 1 ≼ t → (m n : ℕ) → exp_lower (ln_lower t m) n ≼ t
+exp_ln_below t l m n =
     record { cross = limit t.num t.den S.num S.den each t.positive (one_below t l) S.positive }
   where
     S : Ratio
-    S = expLower (lnLower t m) n
+    S = exp_lower (ln_lower t m) n
 
     each : (p i : ℕ) → suc p ≡ t.den * suc S.num → suc p + i ≡ t.num * suc S.num → S.num * p ≤ (p + i) * S.den
     each p i e f =
         bounded S p (p + i)
-        (≼_trans (⊗-mono (exp-lower-mono (ln-lower-mono t (step p i) l (step-above-t t p i (suc S.num) e f) m) n) (≼_refl (whole p))) (climbs p i m n))
+        (≼_trans (⊗_mono (exp_lower_mono (ln_lower_mono t (step p i) l (step_above_t t p i (suc S.num) e f) m) n) (≼_refl (whole p))) (climbs p i m n))

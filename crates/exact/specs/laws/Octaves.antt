@@ -4,16 +4,16 @@ use Rattle.std.specs.Prelude.{ℕ, zero, suc, ◌+◌, ◌*◌, ◌-◌, ◌^◌
 use Rattle.std.proofs.Common.{ap, inl, inr, mul-pos, mul-le-mul_right, mul-le-mul_left, mul-le-mul, eq-or-lt_of_le, arith, pow-add}
 use Rattle.std.proofs.Math.Nat.{le_dest, pow-succ'}
 use Rattle.exact.specs.Fraction.{Ratio, ◌≼◌, ◌≈◌, Above0, whole, ◌⊕◌, ◌⊗◌, ◌⊖◌, recip, power, sum}
-use Rattle.exact.specs.Series.{oneOver, even, lnTerm, seriesLower, exponent, fraction, argument, third}
-use Rattle.exact.specs.LnExp.{ln2Lower, lnLower}
-use Rattle.exact.specs.laws.Divisors.{fraction-above}
+use Rattle.exact.specs.Series.{one_over, even, ln_term, series_lower, exponent, fraction, argument, third}
+use Rattle.exact.specs.LnExp.{ln2_lower, ln_lower}
+use Rattle.exact.specs.laws.Divisors.{fraction_above}
 use Rattle.exact.specs.laws.Frac.{rearrange}
 use Rattle.exact.specs.laws.Linear.{◌+ˢ◌, read, back, linear}
-use Rattle.exact.specs.laws.Lipschitz.{ln-fraction-moves}
-use Rattle.exact.specs.laws.Ln.{exponent-low, exponent-mono, fraction-mono, fraction-below-two, whole-mono}
-use Rattle.exact.specs.laws.LnSeries.{series-lower-mono}
-use Rattle.exact.specs.laws.Positive.{two-pow-pos}
-use Rattle.exact.specs.laws.Ratio.{above-whole, ≼_refl, ≼_trans, to≼, from≼, ⊕-mono, ⊗-mono, ⊕-assoc}
+use Rattle.exact.specs.laws.Lipschitz.{ln_fraction_moves}
+use Rattle.exact.specs.laws.Ln.{exponent_low, exponent_mono, fraction_mono, fraction_below_two, whole_mono}
+use Rattle.exact.specs.laws.LnSeries.{series_lower_mono}
+use Rattle.exact.specs.laws.Positive.{two_pow_pos}
+use Rattle.exact.specs.laws.Ratio.{above_whole, ≼_refl, ≼_trans, to≼, from≼, ⊕-mono, ⊗_mono, ⊕-assoc}
 
 pub difference : (x y : Ratio) → y ≼ x ⊕ (y ⊖ x)
 unfolding ◌⊕◌ ◌⊖◌
@@ -23,80 +23,80 @@ difference x y =
 
 -- ln 1 = 0
 
-pub zero-times : (P O : Ratio) → whole 0 ⊗ P ⊗ O ≼ whole 0
+pub zero_times : (P O : Ratio) → whole 0 ⊗ P ⊗ O ≼ whole 0
 unfolding whole ◌⊗◌
-zero-times P O = omega arith
+zero_times P O = omega arith
 
-pub zero-zero : whole 0 ⊕ whole 0 ≼ whole 0
+pub zero_zero : whole 0 ⊕ whole 0 ≼ whole 0
 unfolding whole ◌⊕◌
-zero-zero = omega arith
+zero_zero = omega arith
 
-pub zero-terms : {z : Ratio} → z ≼ whole 0 → (n : ℕ) → sum (lnTerm z) n ≼ whole 0
-unfolding sum lnTerm power
-zero-terms h zero = ≼_refl (whole 0)
-zero-terms {z} h (suc n) =
-    ≼_trans (⊕-mono (zero-terms h n) (≼_trans (⊗-mono (⊗-mono h (≼_refl (power z (even n)))) (≼_refl _)) (zero-times (power z (even n)) _))) zero-zero
+pub zero_terms : {z : Ratio} → z ≼ whole 0 → (n : ℕ) → sum (ln_term z) n ≼ whole 0
+unfolding sum ln_term power
+zero_terms h zero = ≼_refl (whole 0)
+zero_terms {z} h (suc n) =
+    ≼_trans (⊕-mono (zero_terms h n) (≼_trans (⊗_mono (⊗_mono h (≼_refl (power z (even n)))) (≼_refl _)) (zero_times (power z (even n)) _))) zero_zero
 
-pub argument-one : argument (whole 1) ≼ whole 0
+pub argument_one : argument (whole 1) ≼ whole 0
 unfolding argument whole recip ◌⊖◌ ◌⊗◌ ◌⊕◌
-argument-one = omega arith
+argument_one = omega arith
 
-pub twice-zero : whole 2 ⊗ whole 0 ≼ whole 0
+pub twice_zero : whole 2 ⊗ whole 0 ≼ whole 0
 unfolding whole ◌⊗◌
-twice-zero = omega arith
+twice_zero = omega arith
 
-zero-series : (n : ℕ) → seriesLower (argument (whole 1)) n ≼ whole 0
-unfolding seriesLower
-zero-series n = ≼_trans (⊗-mono (≼_refl (whole 2)) (zero-terms argument-one n)) twice-zero
+zero_series : (n : ℕ) → series_lower (argument (whole 1)) n ≼ whole 0
+unfolding series_lower
+zero_series n = ≼_trans (⊗_mono (≼_refl (whole 2)) (zero_terms argument_one n)) twice_zero
 
-pub over-one : (x : Ratio) → whole 0 ⊕ x ⊗ recip (whole 1) (above-whole 0) ≼ x
+pub over_one : (x : Ratio) → whole 0 ⊕ x ⊗ recip (whole 1) (above_whole 0) ≼ x
 unfolding whole recip ◌⊕◌ ◌⊗◌
-over-one x = omega arith
+over_one x = omega arith
 
 -- ln f ≤ f - 1
-pub ln-below-linear : (f : Ratio) → whole 1 ≼ f → (n : ℕ) → seriesLower (argument f) n ≼ f ⊖ whole 1
-ln-below-linear f l n =
-    ≼_trans (ln-fraction-moves (whole 1) f (f ⊖ whole 1) (≼_refl (whole 1)) l (difference (whole 1) f) (above-whole 0) n)
-    (≼_trans (⊕-mono (zero-series n) (≼_refl _)) (over-one (f ⊖ whole 1)))
+pub ln_below_linear : (f : Ratio) → whole 1 ≼ f → (n : ℕ) → series_lower (argument f) n ≼ f ⊖ whole 1
+ln_below_linear f l n =
+    ≼_trans (ln_fraction_moves (whole 1) f (f ⊖ whole 1) (≼_refl (whole 1)) l (difference (whole 1) f) (above_whole 0) n)
+    (≼_trans (⊕-mono (zero_series n) (≼_refl _)) (over_one (f ⊖ whole 1)))
 
-two-less-one : whole 2 ⊖ whole 1 ≼ whole 1
+two_less_one : whole 2 ⊖ whole 1 ≼ whole 1
 unfolding whole ◌⊖◌
-two-less-one = omega arith
+two_less_one = omega arith
 
-pub third-two : third ≼ argument (whole 2)
-unfolding argument third oneOver whole recip ◌⊖◌ ◌⊗◌ ◌⊕◌
-third-two = omega arith
+pub third_two : third ≼ argument (whole 2)
+unfolding argument third one_over whole recip ◌⊖◌ ◌⊗◌ ◌⊕◌
+third_two = omega arith
 
-pub ln2-below-one : (n : ℕ) → seriesLower third n ≼ whole 1
-ln2-below-one n = ≼_trans (series-lower-mono third-two n) (≼_trans (ln-below-linear (whole 2) (whole-mono 1 2 (omega arith)) n) two-less-one)
+pub ln2_below_one : (n : ℕ) → series_lower third n ≼ whole 1
+ln2_below_one n = ≼_trans (series_lower_mono third_two n) (≼_trans (ln_below_linear (whole 2) (whole_mono 1 2 (omega arith)) n) two_less_one)
 
 -- The same octave
 
-scaled-moves : (s t δ : Ratio) (K : ℕ) (z : 0 < K) → t ≼ s ⊕ δ → t ⊗ oneOver K z ≼ s ⊗ oneOver K z ⊕ δ ⊗ oneOver K z
-unfolding oneOver ◌⊕◌ ◌⊗◌
-scaled-moves s t δ K z h = omega (arith, mul-le-mul_right (K * K) h.cross)
+scaled_moves : (s t δ : Ratio) (K : ℕ) (z : 0 < K) → t ≼ s ⊕ δ → t ⊗ one_over K z ≼ s ⊗ one_over K z ⊕ δ ⊗ one_over K z
+unfolding one_over ◌⊕◌ ◌⊗◌
+scaled_moves s t δ K z h = omega (arith, mul-le-mul_right (K * K) h.cross)
 
-fraction-of : (t : Ratio) (k : ℕ) → k ≡ exponent t → fraction t ≈ t ⊗ oneOver (2 ^ k) (two-pow-pos k)
-unfolding fraction oneOver ◌⊗◌
-fraction-of t k e = omega (arith, ap (λ i. t.num * t.den * 2 ^ i) e)
+fraction_of : (t : Ratio) (k : ℕ) → k ≡ exponent t → fraction t ≈ t ⊗ one_over (2 ^ k) (two_pow_pos k)
+unfolding fraction one_over ◌⊗◌
+fraction_of t k e = omega (arith, ap (λ i. t.num * t.den * 2 ^ i) e)
 
-unscale : (s δ : Ratio) (K : ℕ) (z : 0 < K) (p : Above0 s) (q : Above0 (s ⊗ oneOver K z))
-    → δ ⊗ oneOver K z ⊗ recip (s ⊗ oneOver K z) q ≼ δ ⊗ recip s p
-unfolding oneOver recip ◌⊗◌
+unscale : (s δ : Ratio) (K : ℕ) (z : 0 < K) (p : Above0 s) (q : Above0 (s ⊗ one_over K z))
+    → δ ⊗ one_over K z ⊗ recip (s ⊗ one_over K z) q ≼ δ ⊗ recip s p
+unfolding one_over recip ◌⊗◌
 unscale s δ K z p q = omega arith
 
-pub fraction-one : (t : Ratio) → whole 1 ≼ t → whole 1 ≼ fraction t
-unfolding fraction oneOver whole ◌⊗◌
-fraction-one t l = omega (arith, exponent-low t l)
+pub fraction_one : (t : Ratio) → whole 1 ≼ t → whole 1 ≼ fraction t
+unfolding fraction one_over whole ◌⊗◌
+fraction_one t l = omega (arith, exponent_low t l)
 
-same-octave : (s t δ : Ratio) → whole 1 ≼ s → s ≼ t → t ≼ s ⊕ δ → exponent s ≡ exponent t → (p : Above0 s) (n : ℕ)
-    → seriesLower (argument (fraction t)) n ≼ seriesLower (argument (fraction s)) n ⊕ δ ⊗ recip s p
+same_octave : (s t δ : Ratio) → whole 1 ≼ s → s ≼ t → t ≼ s ⊕ δ → exponent s ≡ exponent t → (p : Above0 s) (n : ℕ)
+    → series_lower (argument (fraction t)) n ≼ series_lower (argument (fraction s)) n ⊕ δ ⊗ recip s p
 unfolding fraction
-same-octave s t δ o l h e p n =
+same_octave s t δ o l h e p n =
     ≼_trans
-    (ln-fraction-moves (fraction s) (fraction t) (δ ⊗ oneOver (2 ^ exponent s) (two-pow-pos (exponent s))) (fraction-one s o) (fraction-mono s t l e)
-    (≼_trans (to≼ (fraction-of t (exponent s) e)) (scaled-moves s t δ (2 ^ exponent s) (two-pow-pos (exponent s)) h))
-    (fraction-above s o) n)
+    (ln_fraction_moves (fraction s) (fraction t) (δ ⊗ one_over (2 ^ exponent s) (two_pow_pos (exponent s))) (fraction_one s o) (fraction_mono s t l e)
+    (≼_trans (to≼ (fraction_of t (exponent s) e)) (scaled_moves s t δ (2 ^ exponent s) (two_pow_pos (exponent s)) h))
+    (fraction_above s o) n)
     (⊕-mono (≼_refl _) (unscale s δ (2 ^ exponent s) _ p _))
 
 -- Another octave: a + m + b ≤ a 2^m b + 1
@@ -124,19 +124,19 @@ less_one b l =
     let e : (b.num * 1 - 1 * b.den) + b.den ≡ b.num = omega arith in
     omega (arith, ap (λ i. i * b.den) e)
 
-one-top : (f : Ratio) → f ≼ whole 2 → (p : Above0 f) → whole 1 ≼ whole 2 ⊗ recip f p
+one_top : (f : Ratio) → f ≼ whole 2 → (p : Above0 f) → whole 1 ≼ whole 2 ⊗ recip f p
 unfolding whole recip ◌⊗◌
-one-top f l p = omega arith
+one_top f l p = omega arith
 
-pub suc-pow : (m : ℕ) → suc m ≤ 2 ^ m
-suc-pow zero = omega arith
-suc-pow (suc m) = omega (arith, suc-pow m)
+pub suc_pow : (m : ℕ) → suc m ≤ 2 ^ m
+suc_pow zero = omega arith
+suc_pow (suc m) = omega (arith, suc_pow m)
 
 -- 2/f_s · 2^m · f_t = t/s ≤ δ/s + 1, where t is in octave k + 1 + m and s in octave k
-whole-ratio : (s t δ : Ratio) (K M : ℕ) (z : 0 < K) (y : 0 < K * (2 * M)) (p : Above0 s) (q : Above0 (s ⊗ oneOver K z)) → t ≼ s ⊕ δ
-    → whole 2 ⊗ recip (s ⊗ oneOver K z) q ⊗ whole M ⊗ (t ⊗ oneOver (K * (2 * M)) y) ≼ δ ⊗ recip s p ⊕ whole 1
-unfolding oneOver whole recip ◌⊕◌ ◌⊗◌
-whole-ratio s t δ K M z y p q h = omega (arith, mul-le-mul_right (2 * K * M * s.num) h.cross)
+whole_ratio : (s t δ : Ratio) (K M : ℕ) (z : 0 < K) (y : 0 < K * (2 * M)) (p : Above0 s) (q : Above0 (s ⊗ one_over K z)) → t ≼ s ⊕ δ
+    → whole 2 ⊗ recip (s ⊗ one_over K z) q ⊗ whole M ⊗ (t ⊗ one_over (K * (2 * M)) y) ≼ δ ⊗ recip s p ⊕ whole 1
+unfolding one_over whole recip ◌⊕◌ ◌⊗◌
+whole_ratio s t δ K M z y p q h = omega (arith, mul-le-mul_right (2 * K * M * s.num) h.cross)
 
 -- X + m + Y ≤ Z from X + 1 ≤ a, Y + 1 ≤ b, a + m + b ≤ c + 1 and c ≤ Z + 1
 pub squeeze : (X Y Z a b c m : Ratio) → X ⊕ whole 1 ≼ a → Y ⊕ whole 1 ≼ b → a ⊕ m ⊕ b ≼ c ⊕ whole 1 → c ≼ Z ⊕ whole 1 → X ⊕ m ⊕ Y ≼ Z
@@ -151,62 +151,62 @@ steps : (k m : ℕ) (L : Ratio) → L ≼ whole 1 → whole (suc (k + m)) ⊗ L 
 unfolding whole ◌⊕◌ ◌⊗◌
 steps k m L h = omega (arith, mul-le-mul_left (m * L.den * L.den) h.cross)
 
-regather : (kL F X m Y : Ratio) → kL ⊕ (F ⊕ X) ⊕ m ⊕ Y ≼ kL ⊕ F ⊕ (X ⊕ m ⊕ Y)
-regather kL F X m Y =
-    linear (kL ∷ F ∷ X ∷ m ∷ Y ∷ [])
+regather : (k_l F X m Y : Ratio) → k_l ⊕ (F ⊕ X) ⊕ m ⊕ Y ≼ k_l ⊕ F ⊕ (X ⊕ m ⊕ Y)
+regather k_l F X m Y =
+    linear (k_l ∷ F ∷ X ∷ m ∷ Y ∷ [])
     λ D z k f x m y. back z (k +ˢ (f +ˢ x) +ˢ m +ˢ y) (k +ˢ f +ˢ (x +ˢ m +ˢ y)) (omega arith)
 
-oneOver-anti : (A B : ℕ) (y : 0 < A) (z : 0 < B) → B ≤ A → oneOver A y ≼ oneOver B z
-unfolding oneOver
-oneOver-anti A B y z h = omega arith
+one_over_anti : (A B : ℕ) (y : 0 < A) (z : 0 < B) → B ≤ A → one_over A y ≼ one_over B z
+unfolding one_over
+one_over_anti A B y z h = omega arith
 
-two-pow-split : (k m : ℕ) → 2 ^ suc (k + m) ≡ 2 ^ k * (2 * 2 ^ m)
-two-pow-split k m = rw (pow-succ', pow-add) (omega arith)
+two_pow_split : (k m : ℕ) → 2 ^ suc (k + m) ≡ 2 ^ k * (2 * 2 ^ m)
+two_pow_split k m = rw (pow-succ', pow-add) (omega arith)
 
 -- f_t over the exponent of s
-fraction-over : (t : Ratio) (k m : ℕ) (y : 0 < 2 ^ k * (2 * 2 ^ m)) → suc (k + m) ≡ exponent t
-    → fraction t ≼ t ⊗ oneOver (2 ^ k * (2 * 2 ^ m)) y
-fraction-over t k m y e =
-    ≼_trans (to≼ (fraction-of t (suc (k + m)) e))
-    (⊗-mono (≼_refl t) (oneOver-anti _ _ (two-pow-pos (suc (k + m))) y (omega (arith, two-pow-split k m))))
+fraction_over : (t : Ratio) (k m : ℕ) (y : 0 < 2 ^ k * (2 * 2 ^ m)) → suc (k + m) ≡ exponent t
+    → fraction t ≼ t ⊗ one_over (2 ^ k * (2 * 2 ^ m)) y
+fraction_over t k m y e =
+    ≼_trans (to≼ (fraction_of t (suc (k + m)) e))
+    (⊗_mono (≼_refl t) (one_over_anti _ _ (two_pow_pos (suc (k + m))) y (omega (arith, two_pow_split k m))))
 
 -- (2 - f_s)/f_s + m + (f_t - 1) ≤ δ/s, where t is m + 1 octaves above s
-octaves-room : (s t δ : Ratio) → whole 1 ≼ s → whole 1 ≼ t → t ≼ s ⊕ δ → (p : Above0 s) (q : Above0 (fraction s)) (m : ℕ) → suc (exponent s + m) ≡ exponent t
+octaves_room : (s t δ : Ratio) → whole 1 ≼ s → whole 1 ≼ t → t ≼ s ⊕ δ → (p : Above0 s) (q : Above0 (fraction s)) (m : ℕ) → suc (exponent s + m) ≡ exponent t
     → (whole 2 ⊖ fraction s) ⊗ recip (fraction s) q ⊕ whole m ⊕ (fraction t ⊖ whole 1) ≼ δ ⊗ recip s p
 unfolding fraction
-octaves-room s t δ o u h p q m e =
-    let y : 0 < 2 ^ exponent s * (2 * 2 ^ m) = mul-pos (two-pow-pos (exponent s)) (mul-pos {m = 2} (omega arith) (two-pow-pos m)) in
+octaves_room s t δ o u h p q m e =
+    let y : 0 < 2 ^ exponent s * (2 * 2 ^ m) = mul-pos (two_pow_pos (exponent s)) (mul-pos {m = 2} (omega arith) (two_pow_pos m)) in
     squeeze _ _ _ (whole 2 ⊗ recip (fraction s) q) (fraction t) (whole 2 ⊗ recip (fraction s) q ⊗ whole (2 ^ m) ⊗ fraction t) (whole m)
-    (top_one (fraction s) (fraction-below-two s) q)
-    (less_one (fraction t) (fraction-one t u))
-    (rises m (2 ^ m) _ (fraction t) (suc-pow m) (one-top (fraction s) (fraction-below-two s) q) (fraction-one t u))
-    (≼_trans (⊗-mono (≼_refl _) (fraction-over t (exponent s) m y e)) (whole-ratio s t δ (2 ^ exponent s) (2 ^ m) (two-pow-pos (exponent s)) y p q h))
+    (top_one (fraction s) (fraction_below_two s) q)
+    (less_one (fraction t) (fraction_one t u))
+    (rises m (2 ^ m) _ (fraction t) (suc_pow m) (one_top (fraction s) (fraction_below_two s) q) (fraction_one t u))
+    (≼_trans (⊗_mono (≼_refl _) (fraction_over t (exponent s) m y e)) (whole_ratio s t δ (2 ^ exponent s) (2 ^ m) (two_pow_pos (exponent s)) y p q h))
 
-octaves-moves : (s t δ : Ratio) → whole 1 ≼ s → s ≼ t → t ≼ s ⊕ δ → (p : Above0 s) (n m : ℕ) → suc (exponent s + m) ≡ exponent t
-    → lnLower t n ≼ lnLower s n ⊕ δ ⊗ recip s p
-unfolding lnLower ln2Lower
-octaves-moves s t δ o l h p n m e =
+octaves_moves : (s t δ : Ratio) → whole 1 ≼ s → s ≼ t → t ≼ s ⊕ δ → (p : Above0 s) (n m : ℕ) → suc (exponent s + m) ≡ exponent t
+    → ln_lower t n ≼ ln_lower s n ⊕ δ ⊗ recip s p
+unfolding ln_lower ln2_lower
+octaves_moves s t δ o l h p n m e =
     let u : whole 1 ≼ t = ≼_trans o l in
-    let q : Above0 (fraction s) = fraction-above s o in
+    let q : Above0 (fraction s) = fraction_above s o in
     ≼_trans
     (⊕-mono
-    (≼_trans (⊗-mono (whole-mono (exponent t) (suc (exponent s + m)) (omega arith)) (≼_refl (seriesLower third n)))
-    (≼_trans (steps (exponent s) m (seriesLower third n) (ln2-below-one n))
+    (≼_trans (⊗_mono (whole_mono (exponent t) (suc (exponent s + m)) (omega arith)) (≼_refl (series_lower third n)))
+    (≼_trans (steps (exponent s) m (series_lower third n) (ln2_below_one n))
     (⊕-mono (⊕-mono (≼_refl _)
-    (≼_trans (series-lower-mono third-two n)
-    (ln-fraction-moves (fraction s) (whole 2) (whole 2 ⊖ fraction s) (fraction-one s o) (fraction-below-two s) (difference (fraction s) (whole 2)) q n)))
+    (≼_trans (series_lower_mono third_two n)
+    (ln_fraction_moves (fraction s) (whole 2) (whole 2 ⊖ fraction s) (fraction_one s o) (fraction_below_two s) (difference (fraction s) (whole 2)) q n)))
     (≼_refl (whole m)))))
-    (ln-below-linear (fraction t) (fraction-one t u) n))
-    (≼_trans (regather _ _ _ _ _) (⊕-mono (≼_refl _) (octaves-room s t δ o u h p q m e)))
+    (ln_below_linear (fraction t) (fraction_one t u) n))
+    (≼_trans (regather _ _ _ _ _) (⊕-mono (≼_refl _) (octaves_room s t δ o u h p q m e)))
 
-pub ln-moves : (s t δ : Ratio) → whole 1 ≼ s → s ≼ t → t ≼ s ⊕ δ → (p : Above0 s) (n : ℕ) → lnLower t n ≼ lnLower s n ⊕ δ ⊗ recip s p
-unfolding lnLower ln2Lower
-ln-moves s t δ o l h p n = go (eq-or-lt_of_le (exponent-mono s t o l))
+pub ln_moves : (s t δ : Ratio) → whole 1 ≼ s → s ≼ t → t ≼ s ⊕ δ → (p : Above0 s) (n : ℕ) → ln_lower t n ≼ ln_lower s n ⊕ δ ⊗ recip s p
+unfolding ln_lower ln2_lower
+ln_moves s t δ o l h p n = go (eq-or-lt_of_le (exponent_mono s t o l))
   where
-    go : (exponent s ≡ exponent t) ⊎ (exponent s < exponent t) → lnLower t n ≼ lnLower s n ⊕ δ ⊗ recip s p
+    go : (exponent s ≡ exponent t) ⊎ (exponent s < exponent t) → ln_lower t n ≼ ln_lower s n ⊕ δ ⊗ recip s p
     go (inl e) =
-        ≼_trans (⊕-mono (⊗-mono (whole-mono (exponent t) (exponent s) (omega arith)) (≼_refl _)) (same-octave s t δ o l h e p n))
+        ≼_trans (⊕-mono (⊗_mono (whole_mono (exponent t) (exponent s) (omega arith)) (≼_refl _)) (same_octave s t δ o l h e p n))
         (from≼ (⊕-assoc _ _ _))
     go (inr k) =
         let d : (m : ℕ) × (suc (exponent s) + m ≡ exponent t) = le_dest k in
-        octaves-moves s t δ o l h p n d.0 (omega (arith, d.1))
+        octaves_moves s t δ o l h p n d.0 (omega (arith, d.1))

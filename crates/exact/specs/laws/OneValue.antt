@@ -2,12 +2,12 @@
 use Rattle.std.specs.Prelude.{ℕ, suc, ◌+◌, ◌*◌, ◌≤◌}
 use Rattle.std.proofs.Common.{mul-le-mul_right, arith}
 use Rattle.std.proofs.Math.Decide.{dec_le}
-use Rattle.exact.specs.Fraction.{whole, Frac, ◌⊑◌, oneF, ofRatio, neg, ◌⊞◌, ◌⊟◌, ◌⊠◌}
+use Rattle.exact.specs.Fraction.{whole, Frac, ◌⊑◌, one_f, of_ratio, neg, ◌⊞◌, ◌⊟◌, ◌⊠◌}
 use Rattle.exact.specs.Bracket.{Bracket, Meet}
 use Rattle.exact.specs.Formula.{Formula}
 use Rattle.exact.specs.Exact.{HasBracket, Closes}
 use Rattle.exact.specs.laws.Closing.{closing}
-use Rattle.exact.specs.laws.Frac.{⊑_refl, ⊑_trans, ⊟-mono, scale-mono}
+use Rattle.exact.specs.laws.Frac.{⊑_refl, ⊑_trans, ⊟-mono, scale_mono}
 use Rattle.exact.specs.laws.Points.{point, signed_above}
 use Rattle.exact.specs.Holding.{Holds}
 
@@ -20,26 +20,26 @@ at_most P Q D h = go (dec_le P Q)
     go (yes l) = l
     go (no l) = let m : suc Q ≤ P = omega arith in absurd (omega (arith, h, mul-le-mul_right (suc D) m))
 
-archimedes : (x y : Frac) → ((k : ℕ) → ofRatio (whole k) ⊠ (x ⊟ y) ⊑ oneF) → x ⊑ y
-unfolding whole ofRatio oneF neg ◌⊞◌ ◌⊟◌ ◌⊠◌
+archimedes : (x y : Frac) → ((k : ℕ) → of_ratio (whole k) ⊠ (x ⊟ y) ⊑ one_f) → x ⊑ y
+unfolding whole of_ratio one_f neg ◌⊞◌ ◌⊟◌ ◌⊠◌
 archimedes x y h =
     let D : ℕ = x.den * y.den in
     record { cross = at_most _ _ D (omega (arith, (h (suc D)).cross)) }
 
 -- where an interval holds the value, the brackets close
-pub holds-closes : {I : Bracket} {x : Formula} → Holds I x → Closes x
-holds-closes h = closing h.there
+pub holds_closes : {I : Bracket} {x : Formula} → Holds I x → Closes x
+holds_closes h = closing h.there
 
 -- the number lies in I: for every k some bracket reaches past neither end of I by more than 1/k
-pub value-between : {I : Bracket} {x : Formula} → Holds I x → (k : ℕ)
-    → (there : HasBracket x) × (ofRatio (whole k) ⊠ (I.lo ⊟ there.bracket.lo) ⊑ oneF) × (ofRatio (whole k) ⊠ (there.bracket.hi ⊟ I.hi) ⊑ oneF)
-value-between h k =
-    let n = (holds-closes h).narrow 0 k in
+pub value_between : {I : Bracket} {x : Formula} → Holds I x → (k : ℕ)
+    → (there : HasBracket x) × (of_ratio (whole k) ⊠ (I.lo ⊟ there.bracket.lo) ⊑ one_f) × (of_ratio (whole k) ⊠ (there.bracket.hi ⊟ I.hi) ⊑ one_f)
+value_between h k =
+    let n = (holds_closes h).narrow 0 k in
     let b = n.0 in
     let m = h.meets b.place b.from_one b.bracket b.is in (
       b,
-      ⊑_trans (scale-mono (signed_above (whole k)) (⊟-mono m.first (⊑_refl b.bracket.lo))) n.2,
-      ⊑_trans (scale-mono (signed_above (whole k)) (⊟-mono (⊑_refl b.bracket.hi) m.second)) n.2,
+      ⊑_trans (scale_mono (signed_above (whole k)) (⊟-mono m.first (⊑_refl b.bracket.lo))) n.2,
+      ⊑_trans (scale_mono (signed_above (whole k)) (⊟-mono (⊑_refl b.bracket.hi) m.second)) n.2,
     )
 
 -- THE EXACT VALUE IS ONE NUMBER
@@ -50,12 +50,12 @@ one_value {x} h k = record { first = below h k; second = below k h }
     below {I} {J} h k =
         archimedes I.lo J.hi
         λ j.
-        let n = (holds-closes h).narrow 0 j in
+        let n = (holds_closes h).narrow 0 j in
         let b = n.0 in
         ⊑_trans
-        (scale-mono (signed_above (whole j)) (⊟-mono (h.meets b.place b.from_one b.bracket b.is).first (k.meets b.place b.from_one b.bracket b.is).second))
+        (scale_mono (signed_above (whole j)) (⊟-mono (h.meets b.place b.from_one b.bracket b.is).first (k.meets b.place b.from_one b.bracket b.is).second))
         n.2
 
 -- where the value is a fraction, no other fraction is it
-pub one-fraction : {x : Formula} {p q : Frac} → Holds (point p) x → Holds (point q) x → (p ⊑ q) × (q ⊑ p)
-one-fraction h k = let m = one_value h k in (m.first, m.second)
+pub one_fraction : {x : Formula} {p q : Frac} → Holds (point p) x → Holds (point q) x → (p ⊑ q) × (q ⊑ p)
+one_fraction h k = let m = one_value h k in (m.first, m.second)

@@ -7,14 +7,14 @@ use Rattle.exact.specs.Fraction.{odd, factorial, Ratio, Above0, whole, ◌⊕◌
 pub odd_pos : (j : ℕ) → 0 < odd j
 odd_pos j = omega arith
 
-pub two-pow-pos : (k : ℕ) → 0 < 2 ^ k
-two-pow-pos k = one-le-pow k 2 (omega arith)
+pub two_pow_pos : (k : ℕ) → 0 < 2 ^ k
+two_pow_pos k = one-le-pow k 2 (omega arith)
 
-pub factorial-pos : (n : ℕ) → 0 < factorial n
+pub factorial_pos : (n : ℕ) → 0 < factorial n
 unfolding factorial
-factorial-pos zero = omega arith
-factorial-pos (suc n) = omega (arith, factorial-pos n)
+factorial_pos zero = omega arith
+factorial_pos (suc n) = omega (arith, factorial_pos n)
 
-pub above-suc : (f : Ratio) → Above0 (f ⊕ whole 1)
+pub above_suc : (f : Ratio) → Above0 (f ⊕ whole 1)
 unfolding whole ◌⊕◌
-above-suc f = omega (arith, f.positive)
+above_suc f = omega (arith, f.positive)

@@ -43,17 +43,17 @@ unfolding ◌⊕◌
 
 -- Products
 
-pub ⊗-mono : {a b c d : Ratio} → a ≼ b → c ≼ d → a ⊗ c ≼ b ⊗ d
+pub ⊗_mono : {a b c d : Ratio} → a ≼ b → c ≼ d → a ⊗ c ≼ b ⊗ d
 unfolding ◌⊗◌
-⊗-mono {a} {b} {c} {d} h k = omega (arith, mul-le-mul h.cross k.cross)
+⊗_mono {a} {b} {c} {d} h k = omega (arith, mul-le-mul h.cross k.cross)
 
-pub ⊗-comm : (x y : Ratio) → x ⊗ y ≈ y ⊗ x
+pub ⊗_comm : (x y : Ratio) → x ⊗ y ≈ y ⊗ x
 unfolding ◌⊗◌
-⊗-comm x y = omega arith
+⊗_comm x y = omega arith
 
-pub ⊗-assoc : (x y z : Ratio) → (x ⊗ y) ⊗ z ≈ x ⊗ (y ⊗ z)
+pub ⊗_assoc : (x y z : Ratio) → (x ⊗ y) ⊗ z ≈ x ⊗ (y ⊗ z)
 unfolding ◌⊗◌
-⊗-assoc x y z = omega arith
+⊗_assoc x y z = omega arith
 
 pub distrib : (x y z : Ratio) → x ⊗ (y ⊕ z) ≈ x ⊗ y ⊕ x ⊗ z
 unfolding ◌⊗◌ ◌⊕◌
@@ -61,20 +61,20 @@ distrib x y z = omega arith
 
 -- Differences and reciprocals
 
-pub above-whole : (n : ℕ) → Above0 (whole (suc n))
+pub above_whole : (n : ℕ) → Above0 (whole (suc n))
 unfolding whole
-above-whole n = omega arith
+above_whole n = omega arith
 
-pub recip-anti : {x y : Ratio} (h : Above0 x) (k : Above0 y) → x ≼ y → recip y k ≼ recip x h
+pub recip_anti : {x y : Ratio} (h : Above0 x) (k : Above0 y) → x ≼ y → recip y k ≼ recip x h
 unfolding recip
-recip-anti h k l = omega arith
+recip_anti h k l = omega arith
 
-pub above-one : {x : Ratio} → whole 1 ≼ x → Above0 x
+pub above_one : {x : Ratio} → whole 1 ≼ x → Above0 x
 unfolding whole
-above-one {x} l = omega (arith, x.positive)
+above_one {x} l = omega (arith, x.positive)
 
-pub above-mono : {x y : Ratio} → Above0 x → x ≼ y → Above0 y
-above-mono {x} {y} h l = record { above = go y.num l.cross }
+pub above_mono : {x y : Ratio} → Above0 x → x ≼ y → Above0 y
+above_mono {x} {y} h l = record { above = go y.num l.cross }
   where
     go : (n : ℕ) → x.num * y.den ≤ n * x.den → 0 < n
     go zero l = omega (arith, mul-pos h.above y.positive)
@@ -91,10 +91,10 @@ unfolding ◌⊖◌
 
 -- Powers and sums of a row
 
-pub power-mono : {x y : Ratio} → x ≼ y → (n : ℕ) → power x n ≼ power y n
+pub power_mono : {x y : Ratio} → x ≼ y → (n : ℕ) → power x n ≼ power y n
 unfolding power
-power-mono l zero = ≼_refl (whole 1)
-power-mono l (suc n) = ⊗-mono l (power-mono l n)
+power_mono l zero = ≼_refl (whole 1)
+power_mono l (suc n) = ⊗_mono l (power_mono l n)
 
 pub sum_mono : {f g : ℕ → Ratio} → ((j : ℕ) → f j ≼ g j) → (n : ℕ) → sum f n ≼ sum g n
 unfolding sum
@@ -107,18 +107,18 @@ pub exchange : (a b c d : Ratio) → a ⊕ b ⊕ (c ⊕ d) ≈ a ⊕ c ⊕ (b �
 unfolding ◌⊕◌
 exchange a b c d = omega arith
 
-pub nothing-times : (x : Ratio) → whole 0 ⊗ x ≼ whole 0
+pub nothing_times : (x : Ratio) → whole 0 ⊗ x ≼ whole 0
 unfolding whole ◌⊗◌
-nothing-times x = omega arith
+nothing_times x = omega arith
 
 pub shift : (S r z : Ratio) → S ⊗ r ⊗ z ≈ S ⊗ z ⊗ r
 unfolding ◌⊗◌
 shift S r z = omega arith
 
-pub one-times : (x : Ratio) → whole 1 ⊗ x ≈ x
+pub one_times : (x : Ratio) → whole 1 ⊗ x ≈ x
 unfolding whole ◌⊗◌
-one-times x = omega arith
+one_times x = omega arith
 
-pub unit-right : (x : Ratio) → x ≼ x ⊗ whole 1
+pub unit_right : (x : Ratio) → x ≼ x ⊗ whole 1
 unfolding whole ◌⊗◌
-unit-right x = omega arith
+unit_right x = omega arith

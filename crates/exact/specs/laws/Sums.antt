@@ -31,28 +31,28 @@ order m n = go (dec_le m n)
         let l : n ≤ m = omega arith in
         let d : (k : ℕ) × (n + k ≡ m) = le_dest l in beyond d.0 (after_is n d.0 ∙ d.1)
 
-pub sum-grows : (t : ℕ → Ratio) (n k : ℕ) → sum t n ≼ sum t (after n k)
+pub sum_grows : (t : ℕ → Ratio) (n k : ℕ) → sum t n ≼ sum t (after n k)
 unfolding sum
-sum-grows t n zero = ≼_refl (sum t n)
-sum-grows t n (suc k) = ≼_trans (sum-grows t n k) (⊕-upper (sum t (after n k)) (t (after n k)))
+sum_grows t n zero = ≼_refl (sum t n)
+sum_grows t n (suc k) = ≼_trans (sum_grows t n k) (⊕-upper (sum t (after n k)) (t (after n k)))
 
 -- more terms
-pub sum-rises : (t : ℕ → Ratio) (m n : ℕ) → m ≤ n → sum t m ≼ sum t n
-sum-rises t m n l = let d = le_dest l in subst (λ i. sum t m ≼ sum t i) (after_is m d.0 ∙ d.1) (sum-grows t m d.0)
+pub sum_rises : (t : ℕ → Ratio) (m n : ℕ) → m ≤ n → sum t m ≼ sum t n
+sum_rises t m n l = let d = le_dest l in subst (λ i. sum t m ≼ sum t i) (after_is m d.0 ∙ d.1) (sum_grows t m d.0)
 
 module _ (t r : ℕ → Ratio) (n : ℕ) (covers : (j : ℕ) → t (after n j) ⊕ r (suc j) ≼ r j) where
   -- the upper ends fall: `r j` is the remainder after `n + j` terms
-  pub upper-falls : (k : ℕ) → sum t (after n k) ⊕ r k ≼ sum t n ⊕ r 0
+  pub upper_falls : (k : ℕ) → sum t (after n k) ⊕ r k ≼ sum t n ⊕ r 0
   unfolding sum
-  upper-falls zero = ≼_refl (sum t n ⊕ r 0)
-  upper-falls (suc k) =
+  upper_falls zero = ≼_refl (sum t n ⊕ r 0)
+  upper_falls (suc k) =
       ≼_trans (to≼ (⊕-assoc (sum t (after n k)) (t (after n k)) (r (suc k))))
-      (≼_trans (⊕-mono (≼_refl (sum t (after n k))) (covers k)) (upper-falls k))
+      (≼_trans (⊕-mono (≼_refl (sum t (after n k))) (covers k)) (upper_falls k))
 
   -- every lower end is below every upper end
-  pub lower-upper : (m : ℕ) → sum t m ≼ sum t n ⊕ r 0
-  lower-upper m = go (order m n)
+  pub lower_upper : (m : ℕ) → sum t m ≼ sum t n ⊕ r 0
+  lower_upper m = go (order m n)
     where
       go : Order m n → sum t m ≼ sum t n ⊕ r 0
-      go (before k e) = ≼_trans (subst (λ i. sum t m ≼ sum t i) e (sum-grows t m k)) (⊕-upper (sum t n) (r 0))
-      go (beyond k e) = subst (λ i. sum t i ≼ sum t n ⊕ r 0) e (≼_trans (⊕-upper (sum t (after n k)) (r k)) (upper-falls k))
+      go (before k e) = ≼_trans (subst (λ i. sum t m ≼ sum t i) e (sum_grows t m k)) (⊕-upper (sum t n) (r 0))
+      go (beyond k e) = subst (λ i. sum t i ≼ sum t n ⊕ r 0) e (≼_trans (⊕-upper (sum t (after n k)) (r k)) (upper_falls k))

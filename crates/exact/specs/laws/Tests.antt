@@ -12,8 +12,8 @@ pub both_true : (a b : Bool) → (a && b) ≡ true → (a ≡ true) × (b ≡ tr
 both_true true b e = (refl, e)
 both_true false b e = absurd (false≢true e)
 
-pub ltb-same : {a b m n : ℕ} → (b ≤ a → n ≤ m) → (n ≤ m → b ≤ a) → ltb a b ≡ ltb m n
-ltb-same {a} {b} {m} {n} f g = go (dec_le b a)
+pub ltb_same : {a b m n : ℕ} → (b ≤ a → n ≤ m) → (n ≤ m → b ≤ a) → ltb a b ≡ ltb m n
+ltb_same {a} {b} {m} {n} f g = go (dec_le b a)
   where
     go : Dec (b ≤ a) → ltb a b ≡ ltb m n
     go (yes h) = le-ltb a b h ∙ sym (le-ltb m n (f h))

@@ -3,12 +3,12 @@ use mathlib.Core.Path.{refl}
 use borrow.Author.Rules.{rules}
 use Rattle.bytes.specs.Numbers.{one, two, four}
 use Rattle.bytes.specs.laws.Storing.{and_then}
-use Rattle.fields.specs.Bytes.{settings, firstBytes}
+use Rattle.fields.specs.Bytes.{settings, first_bytes}
 use Rattle.fields.proofs.write_first.Statement.{statement}
 use Rattle.fields.proofs.write_first.Tie as tie
 
 returns : tie.Need-returns
-unfolding firstBytes settings one two four
+unfolding first_bytes settings one two four
 returns c =
     let body = c.before.before in
     let distance = body.before.before.before.before in

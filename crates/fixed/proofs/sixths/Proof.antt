@@ -18,7 +18,7 @@ mul-y : tie.Need-overflow-mul-y
 mul-y c = (scaling.upper c.before.before.before.before.before.requires).fits
 
 sub-z : tie.Need-overflow-sub-z
-sub-z c = (scaling.upper-opposite c.before.before.before.before.before.requires).fits
+sub-z c = (scaling.upper_opposite c.before.before.before.before.before.requires).fits
 
 floor-sixth-requires-2 : tie.Need-floor-sixth-requires-2
 floor-sixth-requires-2 c κs = search rules

@@ -1,5 +1,5 @@
 -- `frame::is_beyond` meets its contract: the exact test of the guidance, in the case's own air. Assumes nothing.
-use Rattle.guidance.specs.laws.Domain.{own-air}
+use Rattle.guidance.specs.laws.Domain.{own_air}
 use borrow.Author.Rules.{rules}
 use Rattle.frame.proofs.is_beyond.Statement.{statement}
 use Rattle.frame.proofs.is_beyond.Tie as tie
@@ -10,7 +10,7 @@ is-beyond-requires c κs =
     record {
       fields = s.requires.fields;
       cloud = c.before.cloud-of.ensures;
-      pressure = rw c.air-of.ensures (own-air s.requires.fields);
+      pressure = rw c.air-of.ensures (own_air s.requires.fields);
     }
 
 returns : tie.Need-returns

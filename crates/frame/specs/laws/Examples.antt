@@ -4,48 +4,48 @@ use Rattle.std.specs.Prelude.{ℕ, ◌≡◌, refl, List, [], ◌∷◌, ◌++�
 use Rattle.std.proofs.Math.Decide.{dec_le}
 use Rattle.exact.specs.Fraction.{whole, ◌⊗◌, power}
 use Rattle.guidance.specs.declared.Case.{Case}
-use Rattle.guidance.specs.AirPressure.{standard, inAir}
-use Rattle.guidance.specs.Substances.{betas, betaOf, class_of, heat_of}
-use Rattle.guidance.specs.Ranges.{ranges, rangeAt}
-use Rattle.guidance.specs.Clouds.{range_of, groundFactor, leanBy, leanFactor, aerosolFactor, energy}
+use Rattle.guidance.specs.AirPressure.{standard, in_air}
+use Rattle.guidance.specs.Substances.{betas, beta_of, class_of, heat_of}
+use Rattle.guidance.specs.Ranges.{ranges, range_at}
+use Rattle.guidance.specs.Clouds.{range_of, ground_factor, lean_by, lean_factor, aerosol_factor, energy}
 use Rattle.guidance.specs.Distances.{less, metres, cubed, farther, cube24}
 use Rattle.refusals.specs.declared.Fault.TheVariants.{Length, Digit, State, Placement, Surroundings, Quantity, Heat}
 use Rattle.frame.specs.declared.Refusal.TheVariants.{Faulty}
 use Rattle.frame.specs.declared.Verdict.TheVariants.{Accepted, Refused}
-use Rattle.fields.specs.Bytes.{airIn, fields_of}
-use Rattle.hexadecimals.specs.Digits.{digitOf, allDigits, bytes_of}
+use Rattle.fields.specs.Bytes.{air_in, fields_of}
+use Rattle.hexadecimals.specs.Digits.{digit_of, all_digits, bytes_of}
 use Rattle.refusals.specs.Order.{first_of, held}
-use Rattle.limits.specs.Tests.{quantityOutside, heatMissing, valueTests, fieldTests}
-use Rattle.frame.specs.Tests.{frameTests, lineTests}
-use Rattle.frame.specs.Verdicts.{lastTests, frameVerdict, lineVerdict}
+use Rattle.limits.specs.Tests.{quantity_outside, heat_missing, value_tests, field_tests}
+use Rattle.frame.specs.Tests.{frame_tests, line_tests}
+use Rattle.frame.specs.Verdicts.{last_tests, frame_verdict, line_verdict}
 
 -- 00000001000000640001000100000000000000640046
-abbrev pub thirdLine : List ℕ
-thirdLine =
+abbrev pub third_line : List ℕ
+third_line =
     48 ∷ 48 ∷ 48 ∷ 48 ∷ 48 ∷ 48 ∷ 48 ∷ 49 ∷ 48 ∷ 48 ∷ 48
     ∷ 48 ∷ 48 ∷ 48 ∷ 54 ∷ 52 ∷ 48 ∷ 48 ∷ 48 ∷ 49 ∷ 48 ∷ 48
     ∷ 48 ∷ 49 ∷ 48 ∷ 48 ∷ 48 ∷ 48 ∷ 48 ∷ 48 ∷ 48 ∷ 48 ∷ 48
     ∷ 48 ∷ 48 ∷ 48 ∷ 48 ∷ 48 ∷ 54 ∷ 52 ∷ 48 ∷ 48 ∷ 52 ∷ 54 ∷ []
 
 -- the same with a placement of 2
-abbrev pub placementLine : List ℕ
-placementLine =
+abbrev pub placement_line : List ℕ
+placement_line =
     48 ∷ 48 ∷ 48 ∷ 48 ∷ 48 ∷ 50 ∷ 48 ∷ 49 ∷ 48 ∷ 48 ∷ 48
     ∷ 48 ∷ 48 ∷ 48 ∷ 54 ∷ 52 ∷ 48 ∷ 48 ∷ 48 ∷ 49 ∷ 48 ∷ 48
     ∷ 48 ∷ 49 ∷ 48 ∷ 48 ∷ 48 ∷ 48 ∷ 48 ∷ 48 ∷ 48 ∷ 48 ∷ 48
     ∷ 48 ∷ 48 ∷ 48 ∷ 48 ∷ 48 ∷ 54 ∷ 52 ∷ 48 ∷ 48 ∷ 52 ∷ 54 ∷ []
 
 -- 11000104007A1200057803020000B540000027100046
-abbrev pub propaneLine : List ℕ
-propaneLine =
+abbrev pub propane_line : List ℕ
+propane_line =
     49 ∷ 49 ∷ 48 ∷ 48 ∷ 48 ∷ 49 ∷ 48 ∷ 52 ∷ 48 ∷ 48 ∷ 55
     ∷ 65 ∷ 49 ∷ 50 ∷ 48 ∷ 48 ∷ 48 ∷ 53 ∷ 55 ∷ 56 ∷ 48 ∷ 51
     ∷ 48 ∷ 50 ∷ 48 ∷ 48 ∷ 48 ∷ 48 ∷ 66 ∷ 53 ∷ 52 ∷ 48 ∷ 48
     ∷ 48 ∷ 48 ∷ 48 ∷ 50 ∷ 55 ∷ 49 ∷ 48 ∷ 48 ∷ 48 ∷ 52 ∷ 54 ∷ []
 
 -- the same in small letters
-abbrev pub propaneSmall : List ℕ
-propaneSmall =
+abbrev pub propane_small : List ℕ
+propane_small =
     49 ∷ 49 ∷ 48 ∷ 48 ∷ 48 ∷ 49 ∷ 48 ∷ 52 ∷ 48 ∷ 48 ∷ 55
     ∷ 97 ∷ 49 ∷ 50 ∷ 48 ∷ 48 ∷ 48 ∷ 53 ∷ 55 ∷ 56 ∷ 48 ∷ 51
     ∷ 48 ∷ 50 ∷ 48 ∷ 48 ∷ 48 ∷ 48 ∷ 98 ∷ 53 ∷ 52 ∷ 48 ∷ 48
@@ -70,10 +70,10 @@ propane =
 
 -- the line with more characters behind it, and the case in another air
 abbrev pub longer : List ℕ → List ℕ
-longer more = propaneLine ++ more
+longer more = propane_line ++ more
 
-abbrev pub propaneIn : ℕ → Case
-propaneIn air = inAir propane air
+abbrev pub propane_in : ℕ → Case
+propane_in air = in_air propane air
 
 -- three settings, and a distance of 0
 abbrev pub settings : (state placement surroundings : ℕ) → List ℕ
@@ -82,45 +82,45 @@ settings state placement surroundings =
     ∷ 1 ∷ 0 ∷ 0 ∷ 3 ∷ 245 ∷ 0 ∷ 0 ∷ 0 ∷ 0 ∷ 0 ∷ 70 ∷ []
 
 pub record Examples : Type 0 where
-  pub empty-line : lineVerdict [] 77 ≡ Refused (Faulty Length)
-  pub letters-G : lineVerdict (replicate 44 71) 77 ≡ Refused (Faulty Digit)
-  pub third-line : lineVerdict thirdLine 77 ≡ Refused (Faulty Heat)
-  pub propane-line : lineVerdict propaneLine 77 ≡ Accepted propane
-  pub propane-small : lineVerdict propaneSmall 77 ≡ Accepted propane
+  pub empty_line : line_verdict [] 77 ≡ Refused (Faulty Length)
+  pub letters_G : line_verdict (replicate 44 71) 77 ≡ Refused (Faulty Digit)
+  pub third_line_lem : line_verdict third_line 77 ≡ Refused (Faulty Heat)
+  pub propane_line_lem : line_verdict propane_line 77 ≡ Accepted propane
+  pub propane_small_lem : line_verdict propane_small 77 ≡ Accepted propane
   -- 1F40: 80,000 Pa; 2792: 101,300 Pa written out; the ends of the air pressure's values, and past them; 46 characters (request 11)
-  pub mountain-line : lineVerdict (longer (49 ∷ 70 ∷ 52 ∷ 48 ∷ [])) 77 ≡ Accepted (propaneIn 8000)
-  pub standard-written : lineVerdict (longer (50 ∷ 55 ∷ 57 ∷ 50 ∷ [])) 77 ≡ Accepted propane
-  pub thinnest : lineVerdict (longer (49 ∷ 51 ∷ 56 ∷ 56 ∷ [])) 77 ≡ Accepted (propaneIn 5000)
-  pub too-thin : lineVerdict (longer (49 ∷ 51 ∷ 56 ∷ 55 ∷ [])) 77 ≡ Refused (Faulty Quantity)
-  pub densest : lineVerdict (longer (50 ∷ 65 ∷ 70 ∷ 56 ∷ [])) 77 ≡ Accepted (propaneIn 11000)
-  pub too-dense : lineVerdict (longer (50 ∷ 65 ∷ 70 ∷ 57 ∷ [])) 77 ≡ Refused (Faulty Quantity)
-  pub characters-46 : lineVerdict (longer (49 ∷ 70 ∷ [])) 77 ≡ Refused (Faulty Length)
-  pub placement-line : lineVerdict placementLine 77 ≡ Refused (Faulty Placement)
+  pub mountain_line : line_verdict (longer (49 ∷ 70 ∷ 52 ∷ 48 ∷ [])) 77 ≡ Accepted (propane_in 8000)
+  pub standard_written : line_verdict (longer (50 ∷ 55 ∷ 57 ∷ 50 ∷ [])) 77 ≡ Accepted propane
+  pub thinnest : line_verdict (longer (49 ∷ 51 ∷ 56 ∷ 56 ∷ [])) 77 ≡ Accepted (propane_in 5000)
+  pub too_thin : line_verdict (longer (49 ∷ 51 ∷ 56 ∷ 55 ∷ [])) 77 ≡ Refused (Faulty Quantity)
+  pub densest : line_verdict (longer (50 ∷ 65 ∷ 70 ∷ 56 ∷ [])) 77 ≡ Accepted (propane_in 11000)
+  pub too_dense : line_verdict (longer (50 ∷ 65 ∷ 70 ∷ 57 ∷ [])) 77 ≡ Refused (Faulty Quantity)
+  pub characters_46 : line_verdict (longer (49 ∷ 70 ∷ [])) 77 ≡ Refused (Faulty Length)
+  pub placement_line_lem : line_verdict placement_line 77 ≡ Refused (Faulty Placement)
   -- the first wrong byte in the frame's order, then the distance
-  pub state-first : frameVerdict (settings 2 2 5) 77 ≡ Refused (Faulty State)
-  pub placement-next : frameVerdict (settings 1 2 0) 77 ≡ Refused (Faulty Placement)
-  pub surroundings-last : frameVerdict (settings 1 1 5) 77 ≡ Refused (Faulty Surroundings)
-  pub quantity-after : frameVerdict (settings 1 1 4) 77 ≡ Refused (Faulty Quantity)
+  pub state_first : frame_verdict (settings 2 2 5) 77 ≡ Refused (Faulty State)
+  pub placement_next : frame_verdict (settings 1 2 0) 77 ≡ Refused (Faulty Placement)
+  pub surroundings_last : frame_verdict (settings 1 1 5) 77 ≡ Refused (Faulty Surroundings)
+  pub quantity_after : frame_verdict (settings 1 1 4) 77 ≡ Refused (Faulty Quantity)
 
 pub examples : Examples
-unfolding frameVerdict lineVerdict first_of held frameTests lineTests fieldTests valueTests lastTests quantityOutside heatMissing airIn fields_of inAir digitOf allDigits bytes_of farther less cubed metres cube24 power whole ◌⊗◌ energy groundFactor leanFactor leanBy dec_le aerosolFactor heat_of betas betaOf range_of rangeAt ranges class_of
+unfolding frame_verdict line_verdict first_of held frame_tests line_tests field_tests value_tests last_tests quantity_outside heat_missing air_in fields_of in_air digit_of all_digits bytes_of farther less cubed metres cube24 power whole ◌⊗◌ energy ground_factor lean_factor lean_by dec_le aerosol_factor heat_of betas beta_of range_of range_at ranges class_of
 examples =
     record {
-      empty-line = refl;
-      letters-G = refl;
-      third-line = refl;
-      propane-line = refl;
-      propane-small = refl;
-      mountain-line = refl;
-      standard-written = refl;
+      empty_line = refl;
+      letters_G = refl;
+      third_line_lem = refl;
+      propane_line_lem = refl;
+      propane_small_lem = refl;
+      mountain_line = refl;
+      standard_written = refl;
       thinnest = refl;
-      too-thin = refl;
+      too_thin = refl;
       densest = refl;
-      too-dense = refl;
-      characters-46 = refl;
-      placement-line = refl;
-      state-first = refl;
-      placement-next = refl;
-      surroundings-last = refl;
-      quantity-after = refl;
+      too_dense = refl;
+      characters_46 = refl;
+      placement_line_lem = refl;
+      state_first = refl;
+      placement_next = refl;
+      surroundings_last = refl;
+      quantity_after = refl;
     }

@@ -6,30 +6,30 @@ use Rattle.std.proofs.lemmas.Bool.{not-false}
 use Rattle.refusals.specs.declared.Fault.TheVariants.{Length, Digit}
 use Rattle.refusals.specs.Order.{first_of}
 use Rattle.refusals.specs.laws.Order.{passed}
-use Rattle.hexadecimals.specs.Digits.{allDigits, bytes_of}
+use Rattle.hexadecimals.specs.Digits.{all_digits, bytes_of}
 use Rattle.writable.specs.declared.Refusal.TheVariants.{Faulty}
 use Rattle.old_case.specs.declared.OldCase.{OldCase}
-use Rattle.old_case.specs.Cases.{unusableIn}
+use Rattle.old_case.specs.Cases.{unusable_in}
 use Rattle.old_bytes.specs.Bytes.{old_of, misplaced}
 use Rattle.from_old.specs.declared.Refusal.{Refusal}
 use Rattle.from_old.specs.declared.Refusal.TheVariants.{Unwritten, Tag, Double}
 use Rattle.from_old.specs.declared.Reading.TheVariants.{Old, Unread}
-use Rattle.from_old.specs.Tests.{readingTests}
-use Rattle.from_old.specs.Steps.{bytesReading, readingBy, lineReading, UsableIfOld}
+use Rattle.from_old.specs.Tests.{reading_tests}
+use Rattle.from_old.specs.Steps.{bytes_reading, reading_by, line_reading, UsableIfOld}
 
-pub other_length : (line : List ℕ) → (length line ≡ 116 → ⊥) → lineReading line ≡ Unread (Unwritten (Faulty Length))
-unfolding lineReading readingTests first_of
+pub other_length : (line : List ℕ) → (length line ≡ 116 → ⊥) → line_reading line ≡ Unread (Unwritten (Faulty Length))
+unfolding line_reading reading_tests first_of
 other_length line h = simp (ne_eqb (length line) 116 h)
 
-pub other-character : (line : List ℕ) → length line ≡ 116 → allDigits line ≡ false → lineReading line ≡ Unread (Unwritten (Faulty Digit))
-unfolding lineReading readingTests first_of
-other-character line h d = simp (eq-eqb (length line) 116 h, d)
+pub other_character : (line : List ℕ) → length line ≡ 116 → all_digits line ≡ false → line_reading line ≡ Unread (Unwritten (Faulty Digit))
+unfolding line_reading reading_tests first_of
+other_character line h d = simp (eq-eqb (length line) 116 h, d)
 
-pub by_bytes : (line : List ℕ) → length line ≡ 116 → allDigits line ≡ true → lineReading line ≡ bytesReading (bytes_of line)
-unfolding lineReading readingTests first_of
-by_bytes line h d = simp (eq-eqb (length line) 116 h, d) (go (misplaced (bytes_of line)) (unusableIn (old_of (bytes_of line))))
+pub by_bytes : (line : List ℕ) → length line ≡ 116 → all_digits line ≡ true → line_reading line ≡ bytes_reading (bytes_of line)
+unfolding line_reading reading_tests first_of
+by_bytes line h d = simp (eq-eqb (length line) 116 h, d) (go (misplaced (bytes_of line)) (unusable_in (old_of (bytes_of line))))
   where
-    go : (a b : Bool) → readingBy (cond a (some Tag) (cond b (some Double) none)) (old_of (bytes_of line)) ≡ cond a (Unread Tag) (cond b (Unread Double) (Old (old_of (bytes_of line))))
+    go : (a b : Bool) → reading_by (cond a (some Tag) (cond b (some Double) none)) (old_of (bytes_of line)) ≡ cond a (Unread Tag) (cond b (Unread Double) (Old (old_of (bytes_of line))))
     go true b = refl
     go false true = refl
     go false false = refl
@@ -37,24 +37,24 @@ by_bytes line h d = simp (eq-eqb (length line) 116 h, d) (go (misplaced (bytes_o
 -- what passed them has its length, its digits, its tags in place, and usable doubles
 pub record Read (line : List ℕ) : Type 0 where
   pub size : length line ≡ 116
-  pub digits : allDigits line ≡ true
+  pub digits : all_digits line ≡ true
   pub tags : misplaced (bytes_of line) ≡ false
-  pub usable : unusableIn (old_of (bytes_of line)) ≡ false
+  pub usable : unusable_in (old_of (bytes_of line)) ≡ false
 
-pub line_read : (line : List ℕ) → first_of (readingTests line) ≡ none → Read line
-unfolding readingTests
-line_read line h =
-    let p = passed (readingTests line) h in
+pub line_read_lem : (line : List ℕ) → first_of (reading_tests line) ≡ none → Read line
+unfolding reading_tests
+line_read_lem line h =
+    let p = passed (reading_tests line) h in
     record { size = eqb-true (length line) 116 (not-false _ p.0); digits = not-false _ p.1.0; tags = p.1.1.0; usable = p.1.1.1.0 }
 
-pub read-passes : (line : List ℕ) → Read line → first_of (readingTests line) ≡ none
-unfolding readingTests first_of
-read-passes line r = simp (eq-eqb (length line) 116 r.size, r.digits, r.tags, r.usable)
+pub read_passes : (line : List ℕ) → Read line → first_of (reading_tests line) ≡ none
+unfolding reading_tests first_of
+read_passes line r = simp (eq-eqb (length line) 116 r.size, r.digits, r.tags, r.usable)
 
-pub old-by : (r : Option Refusal) (o p : OldCase) → readingBy r o ≡ Old p → (r ≡ none) × (p ≡ o)
-old-by none o p h = (refl, cc)
-old-by (some r) o p h = let z : ◌≡◌ {A = ℕ} 0 1 = cc in absurd (omega arith)
+pub old_by : (r : Option Refusal) (o p : OldCase) → reading_by r o ≡ Old p → (r ≡ none) × (p ≡ o)
+old_by none o p h = (refl, cc)
+old_by (some r) o p h = let z : ◌≡◌ {A = ℕ} 0 1 = cc in absurd (omega arith)
 
-pub usable-if-old : (line : List ℕ) → UsableIfOld (lineReading line)
-unfolding lineReading
-usable-if-old line o h = let p = old-by _ _ o h in rw p.1 (line_read line p.0).usable
+pub usable_if_old : (line : List ℕ) → UsableIfOld (line_reading line)
+unfolding line_reading
+usable_if_old line o h = let p = old_by _ _ o h in rw p.1 (line_read_lem line p.0).usable

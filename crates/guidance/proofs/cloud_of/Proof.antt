@@ -4,7 +4,7 @@ use mathlib.Core.Bool.{◌&&◌}
 use lib.Dec.{eqb, ltb}
 use borrow.Author.Rules.{rules}
 use Rattle.guidance.specs.CloudWords.{parts_of}
-use Rattle.guidance.specs.laws.Energies.{cloud-is}
+use Rattle.guidance.specs.laws.Energies.{cloud_is}
 use Rattle.guidance.proofs.cloud_of.Statement.{statement}
 use Rattle.guidance.proofs.cloud_of.Tie as tie
 
@@ -25,7 +25,7 @@ unfolding parts_of
 returns c =
     let s = c.before.before.before.before.before in
     let range = c.before.before.before.before.range-of in
-    cloud-is s.args.c s.requires _
+    cloud_is s.args.c s.requires _
     range.ensures
     (c.before.before.before.is-aerosol.ensures ∙ ap (λ n. eqb s.args.c.state 1 && ltb 1 n) range.ensures)
     c.before.before.joules-of.ensures

@@ -6,7 +6,7 @@ use native.Mathlib.Omega.{arith}
 use lib.Dec.{ltb}
 use Rattle.exact.specs.Fraction.{whole}
 use Rattle.guidance.specs.Distances.{cube24}
-use Rattle.guidance.specs.laws.Comparisons.{farther-value, farther-words}
+use Rattle.guidance.specs.laws.Comparisons.{farther_value, farther_words}
 use Rattle.guidance.proofs.is_beyond.Statement.{statement}
 use Rattle.guidance.proofs.is_beyond.Tie as tie
 
@@ -28,8 +28,8 @@ returns c =
     let s = c.before.before.before.before in
     c.is-less.ensures
     ∙ (λ i. ltb (s.args.k.joules * c.before.scaled-by.ensures i) (c.before.before.before.cube.ensures i * c.before.before.weight-of.ensures i))
-    ∙ sym (farther-words s.args.c s.args.k s.requires.cloud _ s.args.air)
-    ∙ farther-value _ cube24 s.args.air s.args.c (omega arith)
+    ∙ sym (farther_words s.args.c s.args.k s.requires.cloud _ s.args.air)
+    ∙ farther_value _ cube24 s.args.air s.args.c (omega arith)
 
 pub is-beyond-spec : {M : Type 1} → statement M
 is-beyond-spec =

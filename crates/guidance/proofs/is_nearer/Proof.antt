@@ -3,7 +3,7 @@ use borrow.Author.Rules.{rules}
 use Prim.Native.Nat.{◌*◌}
 use mathlib.Core.Path.{sym, ◌∙◌}
 use lib.Dec.{ltb}
-use Rattle.guidance.specs.laws.Comparisons.{nearer-words}
+use Rattle.guidance.specs.laws.Comparisons.{nearer_words}
 use Rattle.guidance.proofs.is_nearer.Statement.{statement}
 use Rattle.guidance.proofs.is_nearer.Tie as tie
 
@@ -24,7 +24,7 @@ returns c =
     let s = c.before.before.before.before in
     c.is-less.ensures
     ∙ (λ i. ltb (c.before.before.before.cube.ensures i * c.before.before.weight-of.ensures i) (s.args.k.joules * c.before.scaled-by.ensures i))
-    ∙ sym (nearer-words s.args.c s.args.k s.requires.placed.cloud s.args.t s.args.air)
+    ∙ sym (nearer_words s.args.c s.args.k s.requires.placed.cloud s.args.t s.args.air)
 
 pub is-nearer-spec : {M : Type 1} → statement M
 is-nearer-spec =

@@ -2,8 +2,8 @@
 use mathlib.Core.Path.{sym, ◌∙◌}
 use native.Mathlib.Omega.{arith}
 use borrow.Author.Rules.{rules}
-use Rattle.hexadecimals.specs.Digits.{digitOf}
-use Rattle.hexadecimals.specs.laws.Within.{within-true}
+use Rattle.hexadecimals.specs.Digits.{digit_of}
+use Rattle.hexadecimals.specs.laws.Within.{within_true}
 use Rattle.hexadecimals.proofs.digit_of.Statement.{statement}
 use Rattle.hexadecimals.proofs.digit_of.Tie as tie
 
@@ -11,20 +11,20 @@ is-within-requires : tie.Need-is-within-requires
 is-within-requires c κs = search rules
 
 sub-result : tie.Need-overflow-sub-result
-sub-result c = omega (arith, within-true 48 57 c.before.before.args.b (sym c.before.is_Within.ensures ∙ c.if1.true))
+sub-result c = omega (arith, within_true 48 57 c.before.before.args.b (sym c.before.is_Within.ensures ∙ c.if1.true))
 
 returns : tie.Need-returns
-unfolding digitOf
+unfolding digit_of
 returns c = simp (sym c.before.is_Within.ensures ∙ c.if1.true)
 
 is-within-requires-2 : tie.Need-is-within-requires-2
 is-within-requires-2 c κs = search rules
 
 sub-result-2 : tie.Need-overflow-sub-result-2
-sub-result-2 c = omega (arith, within-true 65 70 c.before.before.before.before.args.b (sym c.before.is-within2.ensures ∙ c.if2.true))
+sub-result-2 c = omega (arith, within_true 65 70 c.before.before.before.before.args.b (sym c.before.is-within2.ensures ∙ c.if2.true))
 
 returns-2 : tie.Need-returns-2
-unfolding digitOf
+unfolding digit_of
 returns-2 c =
     let p = c.before.before in
     simp (sym p.before.is_Within.ensures ∙ p.if1.false, sym c.before.is-within2.ensures ∙ c.if2.true)
@@ -33,10 +33,10 @@ is-within-requires-3 : tie.Need-is-within-requires-3
 is-within-requires-3 c κs = search rules
 
 sub-result-3 : tie.Need-overflow-sub-result-3
-sub-result-3 c = omega (arith, within-true 97 102 c.before.before.before.before.before.before.args.b (sym c.before.is-within3.ensures ∙ c.if3.true))
+sub-result-3 c = omega (arith, within_true 97 102 c.before.before.before.before.before.before.args.b (sym c.before.is-within3.ensures ∙ c.if3.true))
 
 returns-3 : tie.Need-returns-3
-unfolding digitOf
+unfolding digit_of
 returns-3 c =
     let q = c.before.before in
     let p = q.before.before in
@@ -47,7 +47,7 @@ returns-3 c =
     )
 
 returns-4 : tie.Need-returns-4
-unfolding digitOf
+unfolding digit_of
 returns-4 c =
     let q = c.before.before in
     let p = q.before.before in

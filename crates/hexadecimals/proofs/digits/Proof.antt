@@ -3,7 +3,7 @@ use Prim.Native.Nat.{◌-◌}
 use native.Mathlib.Omega.{arith}
 use lib.ListN.{length}
 use borrow.Author.Rules.{rules}
-use Rattle.hexadecimals.specs.laws.Worth.{Worth, none-worked, next-worked, all-worked}
+use Rattle.hexadecimals.specs.laws.Worth.{Worth, none_worked, next_worked, all_worked}
 use Rattle.hexadecimals.proofs.digits.Statement.{statement}
 use Rattle.hexadecimals.proofs.digits.Tie as tie
 
@@ -14,7 +14,7 @@ abbrev decreases-loop : tie.decreases-loop
 decreases-loop line worth₀ most₀ i₀ worth most i = length line - i
 
 loop-holds : tie.Need-loop-init invariant-loop decreases-loop
-loop-holds c = none-worked _ _ (search rules)
+loop-holds c = none_worked _ _ (search rules)
 
 shared-slice-read-digit-of : tie.Need-shared-slice-read-digit-of invariant-loop decreases-loop
 shared-slice-read-digit-of c = omega arith
@@ -37,13 +37,13 @@ loop-less c = omega arith
 loop-again : tie.Need-loop-preserved invariant-loop decreases-loop
 loop-again c =
     let t = c.before.before.before.before in
-    next-worked t.loop.invariant (omega arith) c.before.digit-of.ensures c.greater.ensures
+    next_worked t.loop.invariant (omega arith) c.before.digit-of.ensures c.greater.ensures
 
 same_length : tie.Need-same-length invariant-loop decreases-loop
 same_length c = search rules
 
 returns : tie.Need-returns invariant-loop decreases-loop
-returns c = all-worked c.before.loop.invariant c.loop-test.false
+returns c = all_worked c.before.loop.invariant c.loop-test.false
 
 pub digits-spec : {M : Type 1} → statement M
 digits-spec =

@@ -4,8 +4,8 @@ use Prim.Native.Nat.{◌+◌, ◌*◌, ◌-◌, ◌≤◌}
 use borrow.Author.Rules.{rules}
 use native.Mathlib.Omega.{arith}
 use lib.ListN.{length}
-use Rattle.hexadecimals.specs.laws.Worth.{Worth, not-all, digit-most}
-use Rattle.hexadecimals.specs.laws.Spelling.{Begun, begin, again, other-character, all-spelled}
+use Rattle.hexadecimals.specs.laws.Worth.{Worth, not-all, digit_most}
+use Rattle.hexadecimals.specs.laws.Spelling.{Begun, begin, again, other_character, all_spelled}
 use Rattle.hexadecimals.proofs.spell_by.Statement.{statement}
 use Rattle.hexadecimals.proofs.spell_by.Tie as tie
 
@@ -25,7 +25,7 @@ same_length c = search rules
 returns : tie.Need-returns invariant-loop decreases-loop
 returns c =
     let m = c.before.before.before in
-    other-character _ m.before.before.before.before.before.requires.1 (not-all m.digits.ensures c.if1.true)
+    other_character _ m.before.before.before.before.before.requires.1 (not-all m.digits.ensures c.if1.true)
 
 loop-holds : tie.Need-loop-init invariant-loop decreases-loop
 loop-holds c =
@@ -41,7 +41,7 @@ slice-read-s c = omega arith
 mul-s-2 : tie.Need-overflow-mul-s-2 invariant-loop decreases-loop
 mul-s-2 c =
     let l = c.before.before.loop in
-    omega (arith, digit-most l.invariant.0 l.invariant.1 (2 * l.i) (omega arith))
+    omega (arith, digit_most l.invariant.0 l.invariant.1 (2 * l.i) (omega arith))
 
 mul-s-3 : tie.Need-overflow-mul-s-3 invariant-loop decreases-loop
 mul-s-3 c = omega arith
@@ -56,7 +56,7 @@ add-s-2 : tie.Need-overflow-add-s-2 invariant-loop decreases-loop
 add-s-2 c =
     let l = c.before.before.before.loop in
     let w = l.invariant.0 in
-    omega (arith, digit-most w l.invariant.1 (2 * l.i) (omega arith), digit-most w l.invariant.1 (2 * l.i + 1) (omega arith))
+    omega (arith, digit_most w l.invariant.1 (2 * l.i) (omega arith), digit_most w l.invariant.1 (2 * l.i + 1) (omega arith))
 
 slice-write-s : tie.Need-slice-write-s invariant-loop decreases-loop
 slice-write-s c = omega arith
@@ -76,7 +76,7 @@ loop-again c =
       w,
       low,
       l.invariant.2,
-      again l.invariant.3 (omega arith) (w.each (2 * i) (omega arith)) (w.each (2 * i + 1) (omega arith)) (omega arith) (digit-most w low (2 * i) (omega arith)) (digit-most w low (2 * i + 1) (omega arith)),
+      again l.invariant.3 (omega arith) (w.each (2 * i) (omega arith)) (w.each (2 * i + 1) (omega arith)) (omega arith) (digit_most w low (2 * i) (omega arith)) (digit_most w low (2 * i + 1) (omega arith)),
     )
 
 same-length-2 : tie.Need-same-length-2 invariant-loop decreases-loop
@@ -88,7 +88,7 @@ same-length-3 c = search rules
 returns-2 : tie.Need-returns-2 invariant-loop decreases-loop
 returns-2 c =
     let l = c.before.loop in
-    all-spelled _ l.invariant.2 l.invariant.3 (omega (arith, c.loop-test.false))
+    all_spelled _ l.invariant.2 l.invariant.3 (omega (arith, c.loop-test.false))
 
 pub spell-by-spec : {M : Type 1} → statement M
 spell-by-spec =

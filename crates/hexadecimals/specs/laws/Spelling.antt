@@ -8,7 +8,7 @@ use native.Mathlib.Omega.{arith}
 use Rattle.std.proofs.Math.ListN.{length, take, length-set}
 use Rattle.std.proofs.Math.Seq.{take_all}
 use borrow.Author.Tests.{lt-ltb, eq-eqb, ne_eqb, eqb-true}
-use Rattle.hexadecimals.specs.Digits.{digitOf, allDigits, bytes_of}
+use Rattle.hexadecimals.specs.Digits.{digit_of, all_digits, bytes_of}
 use Rattle.hexadecimals.specs.Spelling.{spells, Spelled}
 use Rattle.exact.specs.laws.Tests.{both_true}
 
@@ -16,17 +16,17 @@ use Rattle.exact.specs.laws.Tests.{both_true}
 pub record Begun (n : ℕ) (line bytes : List ℕ) (i : ℕ) : Type 0 where
   pub turns : i ≤ n
   pub whole : length bytes ≡ n
-  pub digits : allDigits line ≡ allDigits (drop (2 * i) line)
+  pub digits : all_digits line ≡ all_digits (drop (2 * i) line)
   pub spelled : bytes_of line ≡ take i bytes ++ bytes_of (drop (2 * i) line)
 
 pub begin : {n : ℕ} (line bytes : List ℕ) → length bytes ≡ n → Begun n line bytes 0
 begin line bytes h = record { turns = omega arith; whole = h; digits = refl; spelled = refl }
 
 -- the next two characters
-next-two : (line : List ℕ) (i : ℕ)
+next_two : (line : List ℕ) (i : ℕ)
     → 2 * i + 1 < length line
     → drop (2 * i) line ≡ get_or line (2 * i) 0 ∷ (get_or line (2 * i + 1) 0 ∷ drop (2 * (i + 1)) line)
-next-two line i fits =
+next_two line i fits =
     let one = drop-cons line (2 * i) 0 (omega arith) in
     let two = drop-cons line (suc (2 * i)) 0 (omega arith) in
     let e : suc (2 * i) ≡ 2 * i + 1 = omega arith in
@@ -38,22 +38,22 @@ next-two line i fits =
 module _ {n : ℕ} {line bytes : List ℕ} {i high low : ℕ}
     (b : Begun n line bytes i)
     (fits : 2 * i + 1 < length line)
-    (first : high ≡ digitOf (get_or line (2 * i) 0))
-    (second : low ≡ digitOf (get_or line (2 * i + 1) 0)) where
+    (first : high ≡ digit_of (get_or line (2 * i) 0))
+    (second : low ≡ digit_of (get_or line (2 * i + 1) 0)) where
   pub again : i < n → high ≤ 15 → low ≤ 15 → Begun n line (set bytes i (16 * high + low)) (i + 1)
-  unfolding allDigits bytes_of
+  unfolding all_digits bytes_of
   again t h l =
       let v = 16 * high + low in
-      let h' : digitOf (get_or line (2 * i) 0) < 16 = omega arith in
-      let l' : digitOf (get_or line (2 * i + 1) 0) < 16 = omega arith in
-      let e : v ≡ 16 * digitOf (get_or line (2 * i) 0) + digitOf (get_or line (2 * i + 1) 0) = omega arith in
+      let h' : digit_of (get_or line (2 * i) 0) < 16 = omega arith in
+      let l' : digit_of (get_or line (2 * i + 1) 0) < 16 = omega arith in
+      let e : v ≡ 16 * digit_of (get_or line (2 * i) 0) + digit_of (get_or line (2 * i + 1) 0) = omega arith in
       let inside : i < length bytes = omega (arith, b.whole) in
       record {
         turns = omega arith;
         whole = length-set bytes i v ∙ b.whole;
-        digits = b.digits ∙ ap allDigits (next-two line i fits) ∙ simp (lt-ltb _ _ h', lt-ltb _ _ l');
+        digits = b.digits ∙ ap all_digits (next_two line i fits) ∙ simp (lt-ltb _ _ h', lt-ltb _ _ l');
         spelled = b.spelled
-            ∙ ap (λ (k : List ℕ). take i bytes ++ bytes_of k) (next-two line i fits)
+            ∙ ap (λ (k : List ℕ). take i bytes ++ bytes_of k) (next_two line i fits)
             ∙ ap (λ (k : ℕ). take i bytes ++ (k ∷ bytes_of (drop (2 * (i + 1)) line))) (sym e)
             ∙ sym (append_assoc (take i bytes) (v ∷ []) (bytes_of (drop (2 * (i + 1)) line)))
             ∙ ap (λ (k : List ℕ). k ++ bytes_of (drop (2 * (i + 1)) line)) (sym (take-suc-set bytes i v inside))
@@ -65,13 +65,13 @@ module _ {n : ℕ} {line bytes : List ℕ} (size : length line ≡ 2 * n) (b : B
   nothing_left : drop (2 * n) line ≡ []
   nothing_left = drop_of_length-le line {i = 2 * n} (omega arith)
 
-  pub all_digits : allDigits line ≡ true
-  unfolding allDigits
-  all_digits = b.digits ∙ ap allDigits nothing_left
+  pub all_digits_lem : all_digits line ≡ true
+  unfolding all_digits
+  all_digits_lem = b.digits ∙ ap all_digits nothing_left
 
-  pub all-bytes : bytes ≡ bytes_of line
+  pub all_bytes : bytes ≡ bytes_of line
   unfolding bytes_of
-  all-bytes =
+  all_bytes =
       let all : take n bytes ≡ bytes = take_all n bytes (omega (arith, b.whole)) in
       sym (b.spelled ∙ ap (λ (k : List ℕ). take n bytes ++ bytes_of k) nothing_left ∙ append-nil (take n bytes) ∙ all)
 
@@ -84,45 +84,45 @@ module _ {line : List ℕ} (before : List ℕ) where
   unfolding spells
   other_length h = as_it_was (simp (ne_eqb _ _ h))
 
-  pub other-character : length line ≡ 2 * length before → allDigits line ≡ false → Spelled line before before false
+  pub other_character : length line ≡ 2 * length before → all_digits line ≡ false → Spelled line before before false
   unfolding spells
-  other-character h e = as_it_was (simp (eq-eqb _ _ h, e))
+  other_character h e = as_it_was (simp (eq-eqb _ _ h, e))
 
-  pub all-spelled : {bytes : List ℕ} {i : ℕ} → length line ≡ 2 * length before → Begun (length before) line bytes i → length before ≤ i → Spelled line before bytes true
+  pub all_spelled : {bytes : List ℕ} {i : ℕ} → length line ≡ 2 * length before → Begun (length before) line bytes i → length before ≤ i → Spelled line before bytes true
   unfolding spells
-  all-spelled {bytes} {i} h b l =
+  all_spelled {bytes} {i} h b l =
       let last : i ≡ length before = omega (arith, b.turns) in
       let made : Begun (length before) line bytes (length before) = rw last at b in
-      let e : spells (length before) line ≡ true = simp (eq-eqb _ _ h, all_digits h made) in
-      record { told = sym e; bytes = simp e (all-bytes h made) }
+      let e : spells (length before) line ≡ true = simp (eq-eqb _ _ h, all_digits_lem h made) in
+      record { told = sym e; bytes = simp e (all_bytes h made) }
 
 -- two characters a byte
-pub length-bytesOf : (n : ℕ) (line : List ℕ) → length line ≡ 2 * n → length (bytes_of line) ≡ n
+pub length_bytes_of : (n : ℕ) (line : List ℕ) → length line ≡ 2 * n → length (bytes_of line) ≡ n
 unfolding bytes_of
-length-bytesOf zero [] h = refl
-length-bytesOf (suc n) [] h = absurd (omega arith)
-length-bytesOf n (a ∷ []) h = absurd (omega arith)
-length-bytesOf zero (a ∷ (b ∷ line)) h = absurd (omega arith)
-length-bytesOf (suc n) (a ∷ (b ∷ line)) h = ap suc (length-bytesOf n line (omega arith))
+length_bytes_of zero [] h = refl
+length_bytes_of (suc n) [] h = absurd (omega arith)
+length_bytes_of n (a ∷ []) h = absurd (omega arith)
+length_bytes_of zero (a ∷ (b ∷ line)) h = absurd (omega arith)
+length_bytes_of (suc n) (a ∷ (b ∷ line)) h = ap suc (length_bytes_of n line (omega arith))
 
 -- what the answer says of the line
 module _ {line before after : List ℕ} {answer : Bool} (s : Spelled line before after answer) where
-  pub yes-bytes : answer ≡ true → after ≡ bytes_of line
-  yes-bytes h = s.bytes ∙ simp (sym s.told ∙ h)
+  pub yes_bytes : answer ≡ true → after ≡ bytes_of line
+  yes_bytes h = s.bytes ∙ simp (sym s.told ∙ h)
 
-  both : answer ≡ true → (eqb (length line) (2 * length before) ≡ true) × (allDigits line ≡ true)
+  both : answer ≡ true → (eqb (length line) (2 * length before) ≡ true) × (all_digits line ≡ true)
   unfolding spells
-  both h = both_true (eqb (length line) (2 * length before)) (allDigits line) (sym s.told ∙ h)
+  both h = both_true (eqb (length line) (2 * length before)) (all_digits line) (sym s.told ∙ h)
 
-  pub yes-digits : answer ≡ true → allDigits line ≡ true
-  yes-digits h = (both h).1
+  pub yes_digits : answer ≡ true → all_digits line ≡ true
+  yes_digits h = (both h).1
 
-  pub yes-size : answer ≡ true → length line ≡ 2 * length before
-  yes-size h = eqb-true (length line) (2 * length before) (both h).0
+  pub yes_size : answer ≡ true → length line ≡ 2 * length before
+  yes_size h = eqb-true (length line) (2 * length before) (both h).0
 
-  pub yes-length : answer ≡ true → length after ≡ length before
-  yes-length h = ap length (yes-bytes h) ∙ length-bytesOf (length before) line (yes-size h)
+  pub yes_length : answer ≡ true → length after ≡ length before
+  yes_length h = ap length (yes_bytes h) ∙ length_bytes_of (length before) line (yes_size h)
 
-  pub no-digits : answer ≡ false → length line ≡ 2 * length before → allDigits line ≡ false
+  pub no_digits : answer ≡ false → length line ≡ 2 * length before → all_digits line ≡ false
   unfolding spells
-  no-digits h n = simp (eq-eqb _ _ n) at (sym s.told ∙ h)
+  no_digits h n = simp (eq-eqb _ _ n) at (sym s.told ∙ h)

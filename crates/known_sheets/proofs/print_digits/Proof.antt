@@ -3,7 +3,7 @@ use mathlib.Core.Path.{sym, ap, ◌∙◌}
 use native.Mathlib.Omega.{arith}
 use lib.ListN.{length, replicate}
 use lib.Seq.{length-sets, length-take-le}
-use Rattle.hexadecimals.specs.Written.{digitsOf}
+use Rattle.hexadecimals.specs.Written.{digits_of}
 use borrow.Author.Rules.{rules}
 use Rattle.known_sheets.proofs.print_digits.Statement.{statement}
 use Rattle.known_sheets.proofs.print_digits.Tie as tie
@@ -12,7 +12,7 @@ slice-aggregate-print : tie.Need-slice-aggregate-print
 slice-aggregate-print c =
     let w = c.before.before in
     let s = w.before.before.before in
-    let long = ap length w.write.ensures ∙ length-sets (replicate 48 0) 0 (digitsOf s.args.frame.now) in
+    let long = ap length w.write.ensures ∙ length-sets (replicate 48 0) 0 (digits_of s.args.frame.now) in
     sym (length-take-le _ _ (omega (arith, s.requires, long)))
 
 pub print-digits-spec : {M : Type 1} → statement M

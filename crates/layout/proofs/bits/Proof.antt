@@ -6,7 +6,7 @@ use native.Mathlib.Omega.{arith}
 use lib.IntN.{ℤ, pos, negsuc, sub_ℕ, ◌+ℤ◌}
 use borrow.Author.Tests.{le-ltb}
 use Rattle.layout.specs.Bytes.{twos}
-use Rattle.signed.specs.Reading.{R, step, Read, as-pos, as-neg}
+use Rattle.signed.specs.Reading.{R, step, Read, as_pos, as_neg}
 use Rattle.layout.proofs.bits.Statement.{statement}
 use Rattle.layout.proofs.bits.Tie as tie
 
@@ -15,10 +15,10 @@ sub-least : (a b : ℕ) → b ≤ a → sub_ℕ a b ≡ pos (a - b)
 sub-least a b h = ap (λ (t : Bool). cond t (negsuc (b - suc a)) (pos (a - b))) (le-ltb a b h)
 
 positive : (c : tie.Then1) → Read pos c.before.args.x
-positive c = as-pos _ c.before.ranges.x.sfits c.if1.true
+positive c = as_pos _ c.before.ranges.x.sfits c.if1.true
 
 negative : (c : tie.Else1) → Read negsuc c.before.args.x
-negative c = as-neg _ c.before.ranges.x.sfits c.if1.false
+negative c = as_neg _ c.before.ranges.x.sfits c.if1.false
 
 -- a negative number with 2 ^ 32 added
 module _ (c : tie.Else1) where

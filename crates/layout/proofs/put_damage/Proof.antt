@@ -2,13 +2,13 @@
 use borrow.Author.Rules.{rules}
 use Rattle.bytes.specs.Numbers.{two}
 use Rattle.layout.specs.Bytes.{halves}
-use Rattle.layout.specs.Places.{damageOf}
+use Rattle.layout.specs.Places.{damage_of}
 use Rattle.bytes.specs.laws.Storing.{and_then}
 use Rattle.layout.proofs.put_damage.Statement.{statement}
 use Rattle.layout.proofs.put_damage.Tie as tie
 
 returns : tie.Need-returns
-unfolding damageOf halves two
+unfolding damage_of halves two
 returns c = search (rules, and_then)
 
 pub put-damage-spec : {M : Type 1} → statement M

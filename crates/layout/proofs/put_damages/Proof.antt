@@ -3,13 +3,13 @@ use mathlib.Core.Path.{refl}
 use borrow.Author.Rules.{rules}
 use Rattle.bytes.specs.Numbers.{two}
 use Rattle.layout.specs.Bytes.{halves}
-use Rattle.layout.specs.Places.{damageOf, damageBytes}
+use Rattle.layout.specs.Places.{damage_of, damage_bytes}
 use Rattle.bytes.specs.laws.Storing.{and_then}
 use Rattle.layout.proofs.put_damages.Statement.{statement}
 use Rattle.layout.proofs.put_damages.Tie as tie
 
 returns : tie.Need-returns
-unfolding damageBytes damageOf halves two
+unfolding damage_bytes damage_of halves two
 returns c =
     let fifth = c.before.before in
     let fourth = fifth.before.before.before.before in

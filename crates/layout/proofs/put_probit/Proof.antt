@@ -2,7 +2,7 @@
 use mathlib.Core.Path.{◌≡◌, ap, ◌∙◌}
 use native.Mathlib.Omega.{arith}
 use Rattle.layout.specs.Bytes.{twos, words, signeds}
-use Rattle.layout.specs.Places.{probitOf}
+use Rattle.layout.specs.Places.{probit_of}
 use Rattle.signed.specs.Reading.{back}
 use borrow.Author.Rules.{rules}
 use Rattle.layout.proofs.put_probit.Statement.{statement}
@@ -21,7 +21,7 @@ same_length : tie.Need-same-length
 same_length c = search rules
 
 returns : tie.Need-returns
-unfolding probitOf signeds words
+unfolding probit_of signeds words
 returns c =
     let ends = c.before.before in
     let upper = ends.before.before in

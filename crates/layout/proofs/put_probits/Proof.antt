@@ -3,13 +3,13 @@ use mathlib.Core.Path.{refl}
 use borrow.Author.Rules.{rules}
 use Rattle.bytes.specs.Numbers.{four}
 use Rattle.layout.specs.Bytes.{signeds}
-use Rattle.layout.specs.Places.{probitOf, probitBytes}
+use Rattle.layout.specs.Places.{probit_of, probit_bytes}
 use Rattle.bytes.specs.laws.Storing.{and_then}
 use Rattle.layout.proofs.put_probits.Statement.{statement}
 use Rattle.layout.proofs.put_probits.Tie as tie
 
 returns : tie.Need-returns
-unfolding probitBytes probitOf signeds four
+unfolding probit_bytes probit_of signeds four
 returns c =
     let fifth = c.before.before in
     let fourth = fifth.before.before.before.before in

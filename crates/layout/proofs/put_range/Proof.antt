@@ -1,6 +1,6 @@
 -- `layout::put_range` meets its contract. Assumes nothing.
 use mathlib.Core.Path.{refl}
-use Rattle.layout.specs.Places.{rangeByte}
+use Rattle.layout.specs.Places.{range_byte}
 use borrow.Author.Rules.{rules}
 use Rattle.layout.proofs.put_range.Statement.{statement}
 use Rattle.layout.proofs.put_range.Tie as tie
@@ -15,7 +15,7 @@ same_length : tie.Need-same-length
 same_length c = search rules
 
 returns : tie.Need-returns
-unfolding rangeByte
+unfolding range_byte
 returns c = record { all = refl }
 
 pub put-range-spec : {M : Type 1} → statement M

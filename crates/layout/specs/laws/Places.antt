@@ -5,8 +5,8 @@ use Rattle.layout.specs.declared.Ends.{Ends}
 use Rattle.layout.specs.declared.Probits.{Probits}
 use Rattle.layout.specs.declared.Damages.{Damages}
 use Rattle.layout.specs.Bytes.{words, signeds, halves}
-use Rattle.layout.specs.Places.{waveBytes, probitOf, probitBytes, damageOf, damageBytes, rangeByte, answerBytes}
+use Rattle.layout.specs.Places.{wave_bytes, probit_of, probit_bytes, damage_of, damage_bytes, range_byte, answer_bytes}
 
-pub answer-length : (range : ℕ) (pressure impulse : Ends) (probits : Probits) (damages : Damages) → length (answerBytes range pressure impulse probits damages) ≡ 77
-unfolding answerBytes rangeByte waveBytes probitBytes probitOf damageBytes damageOf words signeds halves four two
-answer-length range pressure impulse probits damages = refl
+pub answer_length_lem : (range : ℕ) (pressure impulse : Ends) (probits : Probits) (damages : Damages) → length (answer_bytes range pressure impulse probits damages) ≡ 77
+unfolding answer_bytes range_byte wave_bytes probit_bytes probit_of damage_bytes damage_of words signeds halves four two
+answer_length_lem range pressure impulse probits damages = refl

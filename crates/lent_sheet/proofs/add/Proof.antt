@@ -1,5 +1,5 @@
 -- `lent_sheet::add` meets its contract. Assumes nothing.
-use Rattle.lent_sheet.proofs.Settling.{add-refused, add-accepted}
+use Rattle.lent_sheet.proofs.Settling.{add_refused, add_accepted}
 use borrow.Author.Rules.{rules}
 use Rattle.lent_sheet.proofs.add.Statement.{statement}
 use Rattle.lent_sheet.proofs.add.Tie as tie
@@ -34,7 +34,7 @@ same_length c = search rules
 returns-2 : tie.Need-returns-2
 returns-2 c = let acted = c.before.before.before.before.before in
     rw c.number_of_lem.ensures
-    (add-refused _ _ _ _ _ _ acted.before.read.ensures acted.add-frame.ensures _ c.before.before.answer.given.1 acted.before.before.before.if1.false)
+    (add_refused _ _ _ _ _ _ acted.before.read.ensures acted.add-frame.ensures _ c.before.before.answer.given.1 acted.before.before.before.if1.false)
 
 same-length-2 : tie.Need-same-length-2
 same-length-2 c = search rules
@@ -43,7 +43,7 @@ returns-3 : tie.Need-returns-3
 returns-3 c = let written = c.before.before in
     let chosen = written.before.before in
     let acted = chosen.before.before.before.before in
-    add-accepted _ _ _ _ _ _ acted.before.read.ensures acted.add-frame.ensures _ chosen.before.answer2.given.1 acted.before.before.before.if1.false _ written.pack.ensures
+    add_accepted _ _ _ _ _ _ acted.before.read.ensures acted.add-frame.ensures _ chosen.before.answer2.given.1 acted.before.before.before.if1.false _ written.pack.ensures
 
 pub add_spec : {M : Type 1} → statement M
 add_spec =

@@ -1,12 +1,12 @@
 -- `lent_sheet::close` meets its contract. Assumes nothing.
 use mathlib.Core.Path.{refl}
-use Rattle.lent_sheet.proofs.Settling.{short-close, accepted-call}
+use Rattle.lent_sheet.proofs.Settling.{short_close, accepted_call}
 use borrow.Author.Rules.{rules}
 use Rattle.lent_sheet.proofs.close.Statement.{statement}
 use Rattle.lent_sheet.proofs.close.Tie as tie
 
 returns : tie.Need-returns
-returns c = short-close _ c.if1.true
+returns c = short_close _ c.if1.true
 
 read-requires : tie.Need-read-requires
 read-requires c κs = search rules
@@ -23,7 +23,7 @@ same_length c = search rules
 returns-2 : tie.Need-returns-2
 returns-2 c = let written = c.before.before in
     let acted = written.before.before.before in
-    accepted-call _ _ _ _ _ acted.before.before.before.if1.false acted.before.read.ensures acted.close.ensures refl _ written.pack.ensures
+    accepted_call _ _ _ _ _ acted.before.before.before.if1.false acted.before.read.ensures acted.close.ensures refl _ written.pack.ensures
 
 pub close_spec : {M : Type 1} → statement M
 close_spec =

@@ -1,7 +1,7 @@
 -- `lent_sheet::refused_short` meets its contract. Assumes nothing.
 use mathlib.Core.Path.{sym, ap, ◌∙◌}
-use Rattle.sheet_bytes.specs.laws.Lent.{short-lent}
-use Rattle.lent_sheet.proofs.Settling.{shortRefusal, add-short}
+use Rattle.sheet_bytes.specs.laws.Lent.{short_lent}
+use Rattle.lent_sheet.proofs.Settling.{short_refusal, add_short}
 use borrow.Author.Rules.{rules}
 use Rattle.lent_sheet.proofs.refused_short.Statement.{statement}
 use Rattle.lent_sheet.proofs.refused_short.Tie as tie
@@ -23,11 +23,11 @@ enum_told c = search rules
 
 returns : tie.Need-returns
 returns c = λ s place h. let acted = c.before.before.before.before in
-    rw c.number_of_lem.ensures (add-short _ _ _ _ _ _ (acted.before.empty.ensures.0 ∙ sym (short-lent s h)) acted.add-frame.ensures _ (ap shortRefusal c.before.before.answer.given.1) h)
+    rw c.number_of_lem.ensures (add_short _ _ _ _ _ _ (acted.before.empty.ensures.0 ∙ sym (short_lent s h)) acted.add-frame.ensures _ (ap short_refusal c.before.before.answer.given.1) h)
 
 returns-2 : tie.Need-returns-2
 returns-2 c = λ s place h. let acted = c.before.before in
-    add-short _ _ _ _ _ _ (acted.before.empty.ensures.0 ∙ sym (short-lent s h)) acted.add-frame.ensures _ (ap shortRefusal c.enum_told.given.1) h
+    add_short _ _ _ _ _ _ (acted.before.empty.ensures.0 ∙ sym (short_lent s h)) acted.add-frame.ensures _ (ap short_refusal c.enum_told.given.1) h
 
 pub refused-short-spec : {M : Type 1} → statement M
 refused-short-spec =

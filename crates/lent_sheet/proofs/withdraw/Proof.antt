@@ -2,13 +2,13 @@
 use mathlib.Core.Path.{ap}
 use Rattle.sheet.specs.declared.Found.{Found}
 use Rattle.sheet.specs.Operations.{finding, refusal}
-use Rattle.lent_sheet.proofs.Settling.{short-withdraw, refused-call, accepted-call}
+use Rattle.lent_sheet.proofs.Settling.{short_withdraw, refused_call, accepted_call}
 use borrow.Author.Rules.{rules}
 use Rattle.lent_sheet.proofs.withdraw.Statement.{statement}
 use Rattle.lent_sheet.proofs.withdraw.Tie as tie
 
 returns : tie.Need-returns
-returns c = short-withdraw _ _ c.if1.true
+returns c = short_withdraw _ _ c.if1.true
 
 read-requires : tie.Need-read-requires
 read-requires c κs = search rules
@@ -34,7 +34,7 @@ same_length c = search rules
 returns-2 : tie.Need-returns-2
 returns-2 c = let acted = c.before.before.before.before.before in
     rw c.number-of-vacancy.ensures
-    (refused-call _ _ _ _ _ acted.before.before.before.if1.false acted.before.read.ensures acted.withdraw.ensures _ (ap (λ (q : Found). refusal (finding q)) c.before.before.answer.given.1))
+    (refused_call _ _ _ _ _ acted.before.before.before.if1.false acted.before.read.ensures acted.withdraw.ensures _ (ap (λ (q : Found). refusal (finding q)) c.before.before.answer.given.1))
 
 same-length-2 : tie.Need-same-length-2
 same-length-2 c = search rules
@@ -43,7 +43,7 @@ returns-3 : tie.Need-returns-3
 returns-3 c = let written = c.before.before in
     let known = written.before.before in
     let acted = known.before.before.before in
-    accepted-call _ _ _ _ _ acted.before.before.before.if1.false acted.before.read.ensures acted.withdraw.ensures (ap (λ (q : Found). refusal (finding q)) known.enum_told.given.1) _
+    accepted_call _ _ _ _ _ acted.before.before.before.if1.false acted.before.read.ensures acted.withdraw.ensures (ap (λ (q : Found). refusal (finding q)) known.enum_told.given.1) _
     written.pack.ensures
 
 pub withdraw-spec : {M : Type 1} → statement M

@@ -9,46 +9,46 @@ use Rattle.refusals.specs.Order.{first_of}
 use Rattle.fields.specs.Bytes.{fields_of}
 use Rattle.places.specs.declared.Held.{Held}
 use Rattle.places.specs.Holes.{closed, Plain, Each}
-use Rattle.places.specs.laws.Kept.{each-closed, each_at}
+use Rattle.places.specs.laws.Kept.{each_closed, each_at}
 use Rattle.columns.specs.declared.Restoring.{Restoring}
 use Rattle.columns.specs.declared.Restoring.TheVariants.{Written}
 use Rattle.columns.specs.Stored.{Restores}
-use Rattle.archive.specs.Archived.{framesOf, archived}
-use Rattle.archive.specs.laws.RoundTrip.{turned-back, case-again}
+use Rattle.archive.specs.Archived.{frames_of, archived}
+use Rattle.archive.specs.laws.RoundTrip.{turned_back, case_again}
 use Rattle.sheet.specs.Operations.{Operation}
 use Rattle.sheet.specs.Runs.{after}
 use Rattle.sheet.specs.laws.Rightly.{RightlyHeld}
 use Rattle.sheet_bytes.specs.Packing.{size, lent}
-use Rattle.sheet_bytes.specs.laws.Lent.{lent-plain}
-use Rattle.lent_sheet.specs.Calls.{code, archiveTests, Archives}
+use Rattle.sheet_bytes.specs.laws.Lent.{lent_plain}
+use Rattle.lent_sheet.specs.Calls.{code, archive_tests, Archives}
 use Rattle.lent_sheet.specs.Runs.{Reply, Run}
-use Rattle.lent_sheet.specs.laws.Sequences.{from-zeros, room-from-zeros, rightly-from-zeros}
+use Rattle.lent_sheet.specs.laws.Sequences.{from_zeros, room_from_zeros, rightly_from_zeros}
 
 module _ {rest : List ℕ} {operations : List Operation} {replies : List Reply} {t : List ℕ} (run : Run (replicate size 0 ++ rest) operations replies t) where
   abbrev cases : List (Option Held)
   cases = after [] operations
 
   list : lent t ≡ cases
-  list = (from-zeros run).0
+  list = (from_zeros run).0
 
-  pub archived-from-zeros : {before stands : List ℕ} {n : ℕ} → Archives t before n stands → length (archived cases) ≤ length before → (n ≡ 0) × (stands ≡ sets before 0 (archived cases))
-  unfolding archiveTests first_of
-  archived-from-zeros {before} a room =
-      let first : first_of (archiveTests t (length before)) ≡ none = simp (le-ltb (length t) size (room-from-zeros run), list, le-ltb (length before) (length (archived cases)) room) in
+  pub archived_from_zeros : {before stands : List ℕ} {n : ℕ} → Archives t before n stands → length (archived cases) ≤ length before → (n ≡ 0) × (stands ≡ sets before 0 (archived cases))
+  unfolding archive_tests first_of
+  archived_from_zeros {before} a room =
+      let first : first_of (archive_tests t (length before)) ≡ none = simp (le-ltb (length t) size (room_from_zeros run), list, le-ltb (length before) (length (archived cases)) room) in
       (a.returned ∙ ap code first, rw (first, list) at a.area)
 
   most : length cases ≤ 64
-  most = rw list at (lent-plain t (room-from-zeros run)).most
+  most = rw list at (lent_plain t (room_from_zeros run)).most
 
-  pub turned-back-from-zeros
+  pub turned_back_from_zeros
       : {before stands : List ℕ} {v : Restoring} →
       Restores (archived cases) before v stands →
       24 * length (closed cases) ≤ length before →
-      (v ≡ Written (24 * length (closed cases))) × (stands ≡ sets before 0 (framesOf cases))
-  turned-back-from-zeros r room = turned-back cases most r room
+      (v ≡ Written (24 * length (closed cases))) × (stands ≡ sets before 0 (frames_of cases))
+  turned_back_from_zeros r room = turned_back cases most r room
 
   -- each of these frames is read as its case again
-  pub cases-from-zeros : (i : ℕ) (h : Held) → get_or (closed cases) i none ≡ some h → fields_of (take 24 (drop (24 * i) (framesOf cases))) ≡ h.case
-  cases-from-zeros i h e =
-      let rightly : Each RightlyHeld cases = rw list at (rightly-from-zeros run) in
-      case-again cases i h e (each_at RightlyHeld (closed cases) i h (each-closed RightlyHeld cases rightly) e).accepted.fields
+  pub cases_from_zeros : (i : ℕ) (h : Held) → get_or (closed cases) i none ≡ some h → fields_of (take 24 (drop (24 * i) (frames_of cases))) ≡ h.case
+  cases_from_zeros i h e =
+      let rightly : Each RightlyHeld cases = rw list at (rightly_from_zeros run) in
+      case_again cases i h e (each_at RightlyHeld (closed cases) i h (each_closed RightlyHeld cases rightly) e).accepted.fields

@@ -3,56 +3,56 @@ use Rattle.std.specs.Prelude.{ℕ, ◌≤◌, ◌≡◌, refl, Bool, true, false
 use Rattle.std.proofs.Math.Option.{Option, none, some}
 use Rattle.std.proofs.Common.{arith, le-ltb}
 use Rattle.refusals.specs.Order.{◌when◌, first_of}
-use Rattle.refusals.specs.laws.Order.{or_else, first-held, first-append}
-use Rattle.fields.specs.Bytes.{fields_of, frameBytes}
-use Rattle.fields.specs.laws.Back.{frame-most}
-use Rattle.frame.specs.Tests.{frameTests}
+use Rattle.refusals.specs.laws.Order.{or_else, first_held, first_append}
+use Rattle.fields.specs.Bytes.{fields_of, frame_bytes}
+use Rattle.fields.specs.laws.Back.{frame_most}
+use Rattle.frame.specs.Tests.{frame_tests}
 use Rattle.places.specs.declared.Held.{Held}
 use Rattle.places.specs.Holes.{vacant, at}
 use Rattle.sheet.specs.declared.Refusal.{Refusal}
 use Rattle.sheet.specs.declared.Refusal.TheVariants.{Full}
 use Rattle.sheet.specs.declared.Vacancy.TheVariants.{Vacant}
-use Rattle.sheet.specs.Refusals.{number, vacancyNumber}
+use Rattle.sheet.specs.Refusals.{number, vacancy_number}
 use Rattle.sheet.specs.Tests as sheets
-use Rattle.sheet.specs.Operations.{finding, adding, foundIn, found, held_of, refusal, act}
+use Rattle.sheet.specs.Operations.{finding, adding, found_in, found, held_of, refusal, act}
 use Rattle.sheet_bytes.specs.Packing.{size, lent}
-use Rattle.lent_sheet.specs.Calls.{space, Change, add, withdraw, close, operation, tests, frameLength, showTests, totalTests}
+use Rattle.lent_sheet.specs.Calls.{space, Change, add, withdraw, close, operation, tests, frame_length, show_tests, total_tests}
 
-adds-number : (own : Option Refusal) (xs : List (Option Held)) (h : Held) (full : Bool)
+adds_number : (own : Option Refusal) (xs : List (Option Held)) (h : Held) (full : Bool)
     → or_else number own (first_of ((space when false) ∷ (number Full when full) ∷ [])) ≡ refusal (adding (or_else (λ (r : Refusal). r) own (first_of ((Full when full) ∷ []))) xs h).told
 unfolding first_of adding
-adds-number none xs h true = refl
-adds-number none xs h false = refl
-adds-number (some r) xs h full = refl
+adds_number none xs h true = refl
+adds_number none xs h false = refl
+adds_number (some r) xs h full = refl
 
-place-judged : (x : Option Held) → first_of ((space when false) ∷ (vacancyNumber Vacant when vacant x) ∷ []) ≡ refusal (finding (foundIn x))
+place_judged : (x : Option Held) → first_of ((space when false) ∷ (vacancy_number Vacant when vacant x) ∷ []) ≡ refusal (finding (found_in x))
 unfolding first_of
-place-judged none = refl
-place-judged (some c) = refl
+place_judged none = refl
+place_judged (some c) = refl
 
 pub judged : (c : Change) (s : List ℕ) → size ≤ length s → first_of (tests c s) ≡ refusal (act (lent s) (operation c)).told
-unfolding tests act found first_of sheets.addTests
+unfolding tests act found first_of sheets.add_tests
 judged (add frame u) s h =
-    let own = sheets.ownTests (frameTests frame) (fields_of frame) in
+    let own = sheets.own_tests (frame_tests frame) (fields_of frame) in
     rw (
       le-ltb (length s) size h,
-      first-held number own ((space when false) ∷ (number Full when sheets.full (lent s)) ∷ []),
-      first-append own ((Full when sheets.full (lent s)) ∷ []),
+      first_held number own ((space when false) ∷ (number Full when sheets.full (lent s)) ∷ []),
+      first_append own ((Full when sheets.full (lent s)) ∷ []),
     )
-    (adds-number (first_of own) (lent s) (held_of (fields_of frame) u) (sheets.full (lent s)))
-judged (withdraw k) s h = rw (le-ltb (length s) size h) (place-judged (at (lent s) k))
+    (adds_number (first_of own) (lent s) (held_of (fields_of frame) u) (sheets.full (lent s)))
+judged (withdraw k) s h = rw (le-ltb (length s) size h) (place_judged (at (lent s) k))
 judged close s h = rw (le-ltb (length s) size h) refl
 
 -- of reading, with room for a frame
-pub show-judged : (k : ℕ) (s : List ℕ) (room : ℕ) → size ≤ length s → 24 ≤ room → first_of (showTests k s room) ≡ refusal (finding (foundIn (at (lent s) k)))
-unfolding showTests first_of
-show-judged k s room h l = rw (le-ltb (length s) size h) (go (at (lent s) k))
+pub show_judged : (k : ℕ) (s : List ℕ) (room : ℕ) → size ≤ length s → 24 ≤ room → first_of (show_tests k s room) ≡ refusal (finding (found_in (at (lent s) k)))
+unfolding show_tests first_of
+show_judged k s room h l = rw (le-ltb (length s) size h) (go (at (lent s) k))
   where
-    go : (x : Option Held) → first_of ((space when false) ∷ (vacancyNumber Vacant when vacant x) ∷ (space when ltb room (frameLength x)) ∷ []) ≡ refusal (finding (foundIn x))
+    go : (x : Option Held) → first_of ((space when false) ∷ (vacancy_number Vacant when vacant x) ∷ (space when ltb room (frame_length x)) ∷ []) ≡ refusal (finding (found_in x))
     go none = refl
-    go (some c) = simp (le-ltb room (length (frameBytes c.case)) (omega (arith, frame-most c.case)))
+    go (some c) = simp (le-ltb room (length (frame_bytes c.case)) (omega (arith, frame_most c.case)))
 
 -- of the totals
-pub total-judged : (s : List ℕ) → size ≤ length s → first_of (totalTests s) ≡ none
+pub total_judged : (s : List ℕ) → size ≤ length s → first_of (total_tests s) ≡ none
 unfolding first_of
-total-judged s h = rw (le-ltb (length s) size h) refl
+total_judged s h = rw (le-ltb (length s) size h) refl

@@ -1,7 +1,7 @@
 -- `limits::check_values` meets its contract: each answer is that of a test, in the order of the list. Assumes nothing.
 use mathlib.Core.Path.{sym, ◌∙◌}
 use Rattle.refusals.specs.Order.{first_of}
-use Rattle.limits.specs.Tests.{valueTests}
+use Rattle.limits.specs.Tests.{value_tests}
 use borrow.Author.Rules.{rules}
 use Rattle.limits.proofs.check_values.Statement.{statement}
 use Rattle.limits.proofs.check_values.Tie as tie
@@ -10,14 +10,14 @@ is-outside-requires : tie.Need-is-outside-requires
 is-outside-requires c κs = search rules
 
 returns : tie.Need-returns
-unfolding first_of valueTests
+unfolding first_of value_tests
 returns c = simp (sym c.before.is-outside.ensures ∙ c.if1.true)
 
 is-outside-requires-2 : tie.Need-is-outside-requires-2
 is-outside-requires-2 c κs = search rules
 
 returns-2 : tie.Need-returns-2
-unfolding first_of valueTests
+unfolding first_of value_tests
 returns-2 c =
     let p1 = c.before.before in
     simp (
@@ -29,7 +29,7 @@ is-outside-requires-3 : tie.Need-is-outside-requires-3
 is-outside-requires-3 c κs = search rules
 
 returns-3 : tie.Need-returns-3
-unfolding first_of valueTests
+unfolding first_of value_tests
 returns-3 c =
     let p2 = c.before.before in
     let p1 = p2.before.before in
@@ -43,7 +43,7 @@ is-outside-requires-4 : tie.Need-is-outside-requires-4
 is-outside-requires-4 c κs = search rules
 
 returns-4 : tie.Need-returns-4
-unfolding first_of valueTests
+unfolding first_of value_tests
 returns-4 c =
     let p3 = c.before.before in
     let p2 = p3.before.before in
@@ -59,7 +59,7 @@ quantity-outside-requires : tie.Need-quantity-outside-requires
 quantity-outside-requires c κs = search rules
 
 returns-5 : tie.Need-returns-5
-unfolding first_of valueTests
+unfolding first_of value_tests
 returns-5 c =
     let p4 = c.before.before in
     let p3 = p4.before.before in
@@ -74,7 +74,7 @@ returns-5 c =
     )
 
 returns-6 : tie.Need-returns-6
-unfolding first_of valueTests
+unfolding first_of value_tests
 returns-6 c =
     let p4 = c.before.before in
     let p3 = p4.before.before in

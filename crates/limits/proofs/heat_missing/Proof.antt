@@ -2,7 +2,7 @@
 use Prim.Native.Nat.{ℕ}
 use mathlib.Core.Path.{ap, sym, ◌∙◌}
 use lib.Dec.{eqb}
-use Rattle.limits.specs.laws.Fields.{heat-missing}
+use Rattle.limits.specs.laws.Fields.{heat_missing_lem}
 use borrow.Author.Rules.{rules}
 use Rattle.limits.proofs.heat_missing.Statement.{statement}
 use Rattle.limits.proofs.heat_missing.Tie as tie
@@ -11,7 +11,7 @@ heat-of-requires : tie.Need-heat-of-requires
 heat-of-requires c κs = search rules
 
 returns : tie.Need-returns
-returns c = ap (λ (n : ℕ). eqb n 0) c.heat-of.ensures ∙ sym (heat-missing c.before.args.c)
+returns c = ap (λ (n : ℕ). eqb n 0) c.heat-of.ensures ∙ sym (heat_missing_lem c.before.args.c)
 
 pub heat-missing-spec : {M : Type 1} → statement M
 heat-missing-spec = tie.close (tie.spec heat-of-requires returns)

@@ -3,7 +3,7 @@ use mathlib.Core.Path.{◌≡◌, sym, ◌∙◌}
 use mathlib.Core.Bool.{Bool, true, false, ◌||◌}
 use borrow.Author.Rules.{rules}
 use Rattle.guidance.specs.declared.Case.{Case}
-use Rattle.limits.specs.Tests.{outside, quantityOutside}
+use Rattle.limits.specs.Tests.{outside, quantity_outside}
 use Rattle.limits.proofs.quantity_outside.Statement.{statement}
 use Rattle.limits.proofs.quantity_outside.Tie as tie
 
@@ -11,12 +11,12 @@ module _
     (q : Case) {r m c s h d b : Bool} (any : r ≡ (m || c || s || h || d || b)) (mass : m ≡ outside 1 1000000000 q.mass) (mean : c ≡ outside 1 50000 q.mean)
     (stoichiometric : s ≡ outside 1 50000 q.stoichiometric) (heat : h ≡ outside 0 150000 q.heat) (distance : d ≡ outside 1 1000000 q.distance)
     (body : b ≡ outside 1 500 q.body) where
-  by-six : r ≡ true → true ≡ quantityOutside q
-  unfolding quantityOutside
+  by-six : r ≡ true → true ≡ quantity_outside q
+  unfolding quantity_outside
   by-six e = simp (sym (rw (mass, mean, stoichiometric, heat, distance, body) at any) ∙ e)
 
-  by-air : {a : Bool} → r ≡ false → a ≡ outside 5000 11000 q.air → a ≡ quantityOutside q
-  unfolding quantityOutside
+  by-air : {a : Bool} → r ≡ false → a ≡ outside 5000 11000 q.air → a ≡ quantity_outside q
+  unfolding quantity_outside
   by-air e f = f ∙ simp (sym (rw (mass, mean, stoichiometric, heat, distance, body) at any) ∙ e)
 
 returns : tie.Need-returns

@@ -2,7 +2,7 @@
 -- the verdict's number comes back, and the ends of an accepted case.
 -- Assumes nothing.
 use borrow.Author.Rules.{rules}
-use Rattle.linked.specs.Figures.{figureOf}
+use Rattle.linked.specs.Figures.{figure_of}
 use Rattle.linked.proofs.Alone.{taken, given, kept}
 use Rattle.linked.proofs.figure_alone.Statement.{statement}
 use Rattle.linked.proofs.figure_alone.Tie as tie
@@ -28,14 +28,14 @@ returns : tie.Need-returns
 returns c =
     let refused = c.before.before.before.before in
     let x = refused.before.before.args in
-    kept x.frame.now refused.decide-frame.ensures {x = figureOf x.figure} c.before.before.v.given.1 c.number_of_lem.ensures
+    kept x.frame.now refused.decide-frame.ensures {x = figure_of x.figure} c.before.before.v.given.1 c.number_of_lem.ensures
 
 returns-2 : tie.Need-returns-2
 returns-2 c =
     let accepted = c.before.before.before.before in
     let x = accepted.before.before.args in
     let ended = c.ends_of.ensures in
-    given x.frame.now accepted.decide-frame.ensures c.before.before.v2.given.1 {x = figureOf x.figure} ended
+    given x.frame.now accepted.decide-frame.ensures c.before.before.v2.given.1 {x = figure_of x.figure} ended
 
 pub figure-alone-spec : {M : Type 1} → statement M
 figure-alone-spec =

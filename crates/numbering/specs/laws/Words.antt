@@ -7,12 +7,12 @@ use Rattle.refusals.specs.Faults as faults
 use Rattle.frame.specs.declared.Refusal.TheVariants as answers
 use Rattle.ring.specs.declared.Refusal.TheVariants as rings
 use Rattle.writable.specs.declared.Refusal.TheVariants as writings
-use Rattle.from_old.specs.declared.Refusal.TheVariants as old-lines
-use Rattle.to_old.specs.declared.Refusal.TheVariants as ways-back
+use Rattle.from_old.specs.declared.Refusal.TheVariants as old_lines
+use Rattle.to_old.specs.declared.Refusal.TheVariants as ways_back
 use Rattle.sheet.specs.declared.Refusal.TheVariants as sheets
 use Rattle.sheet.specs.declared.Vacancy.TheVariants.{Vacant}
 use Rattle.numbering.specs.Entries.{Refused, number, word}
-use Rattle.numbering.specs.Entries.Refused.{answer, ring, writing, oldLine, wayBack, adding, place}
+use Rattle.numbering.specs.Entries.Refused.{answer, ring, writing, old_line, way_back, adding, place}
 
 -- the words by their numbers from 0 on; an accepted case has none, and 4 has none any more
 abbrev pub words : List (List ℕ)
@@ -32,41 +32,41 @@ words =
     ∷ faults.word State
     ∷ faults.word Placement
     ∷ faults.word Surroundings
-    ∷ word (oldLine old-lines.Tag)
-    ∷ word (oldLine old-lines.Double)
+    ∷ word (old_line old_lines.Tag)
+    ∷ word (old_line old_lines.Double)
     ∷ word (adding sheets.Full)
     ∷ word (place Vacant)
-    ∷ word (wayBack ways-back.Air)
+    ∷ word (way_back ways_back.Air)
     ∷ []
 
-fault-listed : (f : Fault) → faults.word f ≡ get_or words (faults.number f) []
-fault-listed Length = refl
-fault-listed Digit = refl
-fault-listed Substance = refl
-fault-listed State = refl
-fault-listed Placement = refl
-fault-listed Surroundings = refl
-fault-listed Quantity = refl
-fault-listed Heat = refl
+fault_listed : (f : Fault) → faults.word f ≡ get_or words (faults.number f) []
+fault_listed Length = refl
+fault_listed Digit = refl
+fault_listed Substance = refl
+fault_listed State = refl
+fault_listed Placement = refl
+fault_listed Surroundings = refl
+fault_listed Quantity = refl
+fault_listed Heat = refl
 
 pub listed : (r : Refused) → word r ≡ get_or words (number r) []
-listed (answer (answers.Faulty f)) = fault-listed f
+listed (answer (answers.Faulty f)) = fault_listed f
 listed (answer answers.Beyond) = refl
 listed (answer answers.Space) = refl
-listed (ring (rings.Faulty f)) = fault-listed f
+listed (ring (rings.Faulty f)) = fault_listed f
 listed (ring rings.Threshold) = refl
 listed (ring rings.Weak) = refl
 listed (ring rings.Strong) = refl
-listed (writing (writings.Faulty f)) = fault-listed f
+listed (writing (writings.Faulty f)) = fault_listed f
 listed (writing writings.Space) = refl
-listed (oldLine (old-lines.Unwritten (writings.Faulty f))) = fault-listed f
-listed (oldLine (old-lines.Unwritten writings.Space)) = refl
-listed (oldLine old-lines.Tag) = refl
-listed (oldLine old-lines.Double) = refl
-listed (wayBack (ways-back.Faulty f)) = fault-listed f
-listed (wayBack ways-back.Air) = refl
-listed (wayBack ways-back.Space) = refl
-listed (adding (sheets.Faulty f)) = fault-listed f
+listed (old_line (old_lines.Unwritten (writings.Faulty f))) = fault_listed f
+listed (old_line (old_lines.Unwritten writings.Space)) = refl
+listed (old_line old_lines.Tag) = refl
+listed (old_line old_lines.Double) = refl
+listed (way_back (ways_back.Faulty f)) = fault_listed f
+listed (way_back ways_back.Air) = refl
+listed (way_back ways_back.Space) = refl
+listed (adding (sheets.Faulty f)) = fault_listed f
 listed (adding sheets.Beyond) = refl
 listed (adding sheets.Full) = refl
 listed (place Vacant) = refl

@@ -4,7 +4,7 @@ use borrow.Author.Rules.{rules}
 use Rattle.bytes.specs.Numbers.{one, four, eight}
 use Rattle.bytes.specs.laws.Storing.{and_then}
 use Rattle.fields.specs.Bytes.{settings}
-use Rattle.old_bytes.specs.Bytes.{fieldBytes, oldBytes}
+use Rattle.old_bytes.specs.Bytes.{field_bytes, old_bytes}
 use Rattle.old_case.specs.laws.Usable.{usable}
 use Rattle.old_bytes.proofs.write.Statement.{statement}
 use Rattle.old_bytes.proofs.write.Tie as tie
@@ -47,7 +47,7 @@ put-field-requires-6 : tie.Need-put-field-requires-6
 put-field-requires-6 c κs = (search rules, (usable _ (body c).requires.1).body)
 
 returns : tie.Need-returns
-unfolding oldBytes settings fieldBytes one four eight
+unfolding old_bytes settings field_bytes one four eight
 returns c =
     let body = c.before.before in
     let distance = body.before.before.before.before in

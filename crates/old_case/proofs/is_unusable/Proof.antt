@@ -1,12 +1,12 @@
 -- `old_case::is_unusable` meets its contract: one of six answers. Assumes nothing.
 use mathlib.Core.Path.{◌∙◌, refl}
 use borrow.Author.Rules.{rules}
-use Rattle.old_case.specs.Cases.{unusableIn}
+use Rattle.old_case.specs.Cases.{unusable_in}
 use Rattle.old_case.proofs.is_unusable.Statement.{statement}
 use Rattle.old_case.proofs.is_unusable.Tie as tie
 
 returns : tie.Need-returns
-unfolding unusableIn
+unfolding unusable_in
 returns c =
     let heat = c.before.before.before in
     let mean = heat.before.before in

@@ -1,12 +1,12 @@
 -- `old_case::of_case` meets its contract: each double is the nearest. Assumes nothing.
 use mathlib.Core.Path.{refl}
 use borrow.Author.Rules.{rules}
-use Rattle.old_case.specs.Cases.{oldCaseOf}
+use Rattle.old_case.specs.Cases.{old_case_of}
 use Rattle.old_case.proofs.of_case.Statement.{statement}
 use Rattle.old_case.proofs.of_case.Tie as tie
 
 returns : tie.Need-returns
-unfolding oldCaseOf
+unfolding old_case_of
 returns c =
     let heat = c.before.before in
     let mean = heat.before.before in

@@ -3,10 +3,10 @@ use Rattle.std.specs.Prelude.{ℕ, ◌*◌, ◌≤◌, ◌<◌, ◌≡◌, false
 use Rattle.std.proofs.Common.{arith, lit<, lit≤}
 use Rattle.guidance.specs.declared.Case.{Case}
 use Rattle.guidance.specs.Cases.{Fields}
-use Rattle.refusals.specs.laws.Order.{none-applies}
+use Rattle.refusals.specs.laws.Order.{none_applies}
 use Rattle.doubles.specs.RoundTrip.{Fraction}
-use Rattle.doubles.specs.laws.Trip.{back-usable}
-use Rattle.old_case.specs.Cases.{unusableIn, oldCaseOf}
+use Rattle.doubles.specs.laws.Trip.{back_usable}
+use Rattle.old_case.specs.Cases.{unusable_in, old_case_of}
 
 pub record Fractions (c : Case) : Type 0 where
   pub mass : Fraction 1000 c.mass
@@ -22,17 +22,17 @@ fraction s n m a b h l = record { scale = a; most = b; number = omega arith }
 pub fractions : (c : Case) → Fields c → Fractions c
 fractions c f =
     record {
-      mass = fraction 1000 c.mass 1000000000 (lit< tt) (lit≤ tt) (lit≤ tt) f.mass-most;
-      mean = fraction 10 c.mean 50000 (lit< tt) (lit≤ tt) (lit≤ tt) f.mean-most;
-      stoichiometric = fraction 10 c.stoichiometric 50000 (lit< tt) (lit≤ tt) (lit≤ tt) f.stoichiometric-most;
-      heat = fraction 1000 c.heat 150000 (lit< tt) (lit≤ tt) (lit≤ tt) f.heat-most;
+      mass = fraction 1000 c.mass 1000000000 (lit< tt) (lit≤ tt) (lit≤ tt) f.mass_most;
+      mean = fraction 10 c.mean 50000 (lit< tt) (lit≤ tt) (lit≤ tt) f.mean_most;
+      stoichiometric = fraction 10 c.stoichiometric 50000 (lit< tt) (lit≤ tt) (lit≤ tt) f.stoichiometric_most;
+      heat = fraction 1000 c.heat 150000 (lit< tt) (lit≤ tt) (lit≤ tt) f.heat_most;
       distance = fraction 100 c.distance 1000000 (lit< tt) (lit≤ tt) (lit≤ tt) f.distance_most;
-      body = fraction 1 c.body 500 (lit< tt) (lit≤ tt) (lit≤ tt) f.body-most;
+      body = fraction 1 c.body 500 (lit< tt) (lit≤ tt) (lit≤ tt) f.body_most;
     }
 
-pub all-usable : (c : Case) → Fields c → unusableIn (oldCaseOf c) ≡ false
-unfolding unusableIn oldCaseOf
-all-usable c f =
+pub all_usable : (c : Case) → Fields c → unusable_in (old_case_of c) ≡ false
+unfolding unusable_in old_case_of
+all_usable c f =
     let k = fractions c f in
-    none-applies (back-usable 1000 c.mass k.mass) (back-usable 10 c.mean k.mean) (back-usable 10 c.stoichiometric k.stoichiometric)
-    (back-usable 1000 c.heat k.heat) (back-usable 100 c.distance k.distance) (back-usable 1 c.body k.body)
+    none_applies (back_usable 1000 c.mass k.mass) (back_usable 10 c.mean k.mean) (back_usable 10 c.stoichiometric k.stoichiometric)
+    (back_usable 1000 c.heat k.heat) (back_usable 100 c.distance k.distance) (back_usable 1 c.body k.body)

@@ -13,20 +13,20 @@ use Rattle.doubles.specs.Doubles.{whole, nearest}
 use Rattle.doubles.specs.laws.Trip.{back_in}
 use Rattle.doubles.specs.laws.RoundTrip.{exactly, kept}
 use Rattle.old_case.specs.declared.OldCase.{OldCase}
-use Rattle.old_case.specs.Cases.{case_of, lostHeat, oldCaseOf}
+use Rattle.old_case.specs.Cases.{case_of, lost_heat, old_case_of}
 use Rattle.old_case.specs.Exactly.{AllExactly}
 use Rattle.old_case.specs.laws.Fractions.{Fractions, fractions}
 
 -- what comes in is in the standard air
-pub in-standard : (o : OldCase) → (case_of o).air ≡ standard
+pub in_standard : (o : OldCase) → (case_of o).air ≡ standard
 unfolding case_of
-in-standard o = refl
+in_standard o = refl
 
 -- a heat of 0 is no heat above zero
-no-heat : (n : ℕ) → (lt (whole 0) (nearest 1000 n) && eqb n 0) ≡ false
+no_heat : (n : ℕ) → (lt (whole 0) (nearest 1000 n) && eqb n 0) ≡ false
 unfolding lt of_int round
-no-heat zero = refl
-no-heat (suc n) = simp (ne_eqb (suc n) 0 (λ e. omega arith)) (unused (lt (whole 0) (nearest 1000 (suc n))))
+no_heat zero = refl
+no_heat (suc n) = simp (ne_eqb (suc n) 0 (λ e. omega arith)) (unused (lt (whole 0) (nearest 1000 (suc n))))
   where
     unused : (b : Bool) → (b && false) ≡ false
     unused true = refl
@@ -49,14 +49,14 @@ module _ (c : Case) (f : Fields c) where
   k : Fractions c
   k = fractions c f
 
-  pub fitting : Fitting (oldCaseOf c)
-  unfolding oldCaseOf
+  pub fitting : Fitting (old_case_of c)
+  unfolding old_case_of
   fitting =
       record {
         substance = omega (arith, f.substance);
         state = omega (arith, f.state);
         placement = omega (arith, f.placement);
-        surroundings = omega (arith, f.surroundings-most);
+        surroundings = omega (arith, f.surroundings_most);
         mass = round-fits binary64 false c.mass 1000;
         mean = round-fits binary64 false c.mean 10;
         stoichiometric = round-fits binary64 false c.stoichiometric 10;
@@ -66,9 +66,9 @@ module _ (c : Case) (f : Fields c) where
       }
 
   -- a case in the standard air
-  pub case-again : c.air ≡ standard → case_of (oldCaseOf c) ≡ c
-  unfolding case_of oldCaseOf
-  case-again e =
+  pub case_again : c.air ≡ standard → case_of (old_case_of c) ≡ c
+  unfolding case_of old_case_of
+  case_again e =
       λ i. record {
         substance = c.substance;
         state = c.state;
@@ -83,13 +83,13 @@ module _ (c : Case) (f : Fields c) where
         air = sym e i;
       }
 
-  pub heat-kept : lostHeat (oldCaseOf c) ≡ false
-  unfolding lostHeat oldCaseOf
-  heat-kept = ap (λ (n : ℕ). lt (whole 0) (nearest 1000 c.heat) && eqb n 0) (back_in 1000 c.heat k.heat) ∙ no-heat c.heat
+  pub heat_kept : lost_heat (old_case_of c) ≡ false
+  unfolding lost_heat old_case_of
+  heat_kept = ap (λ (n : ℕ). lt (whole 0) (nearest 1000 c.heat) && eqb n 0) (back_in 1000 c.heat k.heat) ∙ no_heat c.heat
 
-  pub all-exactly : AllExactly (oldCaseOf c)
-  unfolding oldCaseOf
-  all-exactly =
+  pub all_exactly : AllExactly (old_case_of c)
+  unfolding old_case_of
+  all_exactly =
       record {
         mass = exactly 1000 c.mass k.mass;
         mean = exactly 10 c.mean k.mean;
@@ -100,9 +100,9 @@ module _ (c : Case) (f : Fields c) where
       }
 
 -- doubles that are such nearest ones
-pub old-kept : (o : OldCase) → Fitting o → AllExactly o → oldCaseOf (case_of o) ≡ o
-unfolding oldCaseOf case_of
-old-kept o f e =
+pub old_kept : (o : OldCase) → Fitting o → AllExactly o → old_case_of (case_of o) ≡ o
+unfolding old_case_of case_of
+old_kept o f e =
     λ k. record {
       substance = o.substance;
       state = o.state;

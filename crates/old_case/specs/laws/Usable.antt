@@ -3,7 +3,7 @@ use Rattle.std.specs.Prelude.{◌≡◌, false}
 use Rattle.refusals.specs.laws.Order.{none_of}
 use Rattle.doubles.specs.Doubles.{unusable}
 use Rattle.old_case.specs.declared.OldCase.{OldCase}
-use Rattle.old_case.specs.Cases.{unusableIn}
+use Rattle.old_case.specs.Cases.{unusable_in}
 
 pub record Usable (o : OldCase) : Type 0 where
   pub mass : unusable o.mass ≡ false
@@ -13,8 +13,8 @@ pub record Usable (o : OldCase) : Type 0 where
   pub distance : unusable o.distance ≡ false
   pub body : unusable o.body ≡ false
 
-pub usable : (o : OldCase) → unusableIn o ≡ false → Usable o
-unfolding unusableIn
+pub usable : (o : OldCase) → unusable_in o ≡ false → Usable o
+unfolding unusable_in
 usable o h =
     let n = none_of (unusable o.mass) (unusable o.mean) (unusable o.stoichiometric) (unusable o.heat) (unusable o.distance) (unusable o.body) h in
     record { mass = n.0; mean = n.1; stoichiometric = n.2; heat = n.3; distance = n.4; body = n.5 }

@@ -3,30 +3,30 @@ use Rattle.std.specs.Prelude.{ℕ, ◌≡◌, refl, List, [], ◌∷◌, ◌++�
 use Rattle.std.specs.Float.Ieee.{of_bits, to_bits, lt, of_int, round}
 use Rattle.refusals.specs.declared.Fault.TheVariants.{Length, Digit, Substance, Quantity, Heat}
 use Rattle.refusals.specs.Order.{first_of, held}
-use Rattle.guidance.specs.Substances.{betas, betaOf}
+use Rattle.guidance.specs.Substances.{betas, beta_of}
 use Rattle.bytes.specs.Numbers.{one, four, eight}
-use Rattle.hexadecimals.specs.Digits.{digitOf, allDigits, bytes_of}
-use Rattle.hexadecimals.specs.Written.{upper, digitsOf}
-use Rattle.fields.specs.Bytes.{airIn, fields_of, settings}
-use Rattle.limits.specs.Tests.{quantityOutside, heatMissing, valueTests, fieldTests}
-use Rattle.frame.specs.Tests.{frameTests}
-use Rattle.frame.specs.laws.Examples.{propane, thirdLine, longer}
+use Rattle.hexadecimals.specs.Digits.{digit_of, all_digits, bytes_of}
+use Rattle.hexadecimals.specs.Written.{upper, digits_of}
+use Rattle.fields.specs.Bytes.{air_in, fields_of, settings}
+use Rattle.limits.specs.Tests.{quantity_outside, heat_missing, value_tests, field_tests}
+use Rattle.frame.specs.Tests.{frame_tests}
+use Rattle.frame.specs.laws.Examples.{propane, third_line, longer}
 use Rattle.writable.specs.declared.Refusal.TheVariants.{Faulty, Space}
-use Rattle.writable.specs.Verdicts.{writableTests}
+use Rattle.writable.specs.Verdicts.{writable_tests}
 use Rattle.doubles.specs.Doubles.{unusable, rounded}
-use Rattle.old_case.specs.Cases.{unusableIn, case_of, lostHeat, oldCaseOf}
-use Rattle.old_bytes.specs.Bytes.{fieldBytes, old_of, oldBytes, misplaced}
+use Rattle.old_case.specs.Cases.{unusable_in, case_of, lost_heat, old_case_of}
+use Rattle.old_bytes.specs.Bytes.{field_bytes, old_of, old_bytes, misplaced}
 use Rattle.from_old.specs.declared.Refusal.TheVariants.{Unwritten, Tag, Double}
 use Rattle.from_old.specs.declared.Verdict.TheVariants.{Accepted, Refused}
-use Rattle.from_old.specs.Tests.{readingTests, wholeTests, lineTests, lineVerdict}
+use Rattle.from_old.specs.Tests.{reading_tests, whole_tests, line_tests, line_verdict}
 use Rattle.to_old.specs.declared.Refusal.TheVariants as returns
 use Rattle.to_old.specs.declared.Verdict.TheVariants as back
-use Rattle.to_old.specs.Tests.{lastTests, frameVerdict}
-use Rattle.to_old.specs.Entry.{oldLine}
+use Rattle.to_old.specs.Tests.{last_tests, frame_verdict}
+use Rattle.to_old.specs.Entry.{old_line}
 
 -- 110001040140BF400000000000024061800000000000034053400000000000044047333333333333054059000000000000064051800000000000
-abbrev pub propaneLine : List ℕ
-propaneLine =
+abbrev pub propane_line : List ℕ
+propane_line =
     49 ∷ 49 ∷ 48 ∷ 48 ∷ 48 ∷ 49 ∷ 48 ∷ 52 ∷ 48 ∷ 49 ∷ 52 ∷ 48 ∷ 66 ∷ 70 ∷ 52 ∷ 48 ∷ 48 ∷ 48 ∷ 48 ∷ 48
     ∷ 48 ∷ 48 ∷ 48 ∷ 48 ∷ 48 ∷ 48 ∷ 48 ∷ 50 ∷ 52 ∷ 48 ∷ 54 ∷ 49 ∷ 56 ∷ 48 ∷ 48 ∷ 48 ∷ 48 ∷ 48 ∷ 48 ∷ 48
     ∷ 48 ∷ 48 ∷ 48 ∷ 48 ∷ 48 ∷ 51 ∷ 52 ∷ 48 ∷ 53 ∷ 51 ∷ 52 ∷ 48 ∷ 48 ∷ 48 ∷ 48 ∷ 48 ∷ 48 ∷ 48 ∷ 48 ∷ 48
@@ -37,7 +37,7 @@ propaneLine =
 -- the same with another substance, mass, heat or tag of the distance
 abbrev pub changed : (substance mass heat tag : ℕ) → List ℕ
 changed substance mass heat tag =
-    digitsOf
+    digits_of
     (settings substance 0 1 4
     ++ (one 1 ++ eight mass)
     ++ (one 2 ++ eight 0x4061_8000_0000_0000)
@@ -63,45 +63,45 @@ abbrev infinite : ℕ
 infinite = 0x7ff0_0000_0000_0000
 
 -- 2792 and 1F40: 101,300 Pa and 80,000 Pa
-abbrev standardDigits : List ℕ
-standardDigits = 50 ∷ 55 ∷ 57 ∷ 50 ∷ []
+abbrev standard_digits : List ℕ
+standard_digits = 50 ∷ 55 ∷ 57 ∷ 50 ∷ []
 
-abbrev mountainDigits : List ℕ
-mountainDigits = 49 ∷ 70 ∷ 52 ∷ 48 ∷ []
+abbrev mountain_digits : List ℕ
+mountain_digits = 49 ∷ 70 ∷ 52 ∷ 48 ∷ []
 
 pub record Examples : Type 0 where
-  pub given_back : oldLine propane ≡ propaneLine
-  pub taken_in : lineVerdict propaneLine 22 ≡ Accepted propane
-  pub same_line : changed 17 mass heat 5 ≡ propaneLine
-  pub no_room : lineVerdict propaneLine 21 ≡ Refused (Unwritten Space)
-  pub empty-line : lineVerdict [] 22 ≡ Refused (Unwritten (Faulty Length))
-  pub letters-G : lineVerdict (replicate 116 71) 22 ≡ Refused (Unwritten (Faulty Digit))
-  pub lost-heat : lineVerdict (changed 17 mass little 5) 22 ≡ Refused (Unwritten (Faulty Quantity))
-  pub tag-before-double : lineVerdict (changed 17 mass infinite 6) 22 ≡ Refused Tag
-  pub double-before-substance : lineVerdict (changed 76 below heat 5) 22 ≡ Refused Double
-  pub substance-before-lost-heat : lineVerdict (changed 76 mass little 5) 22 ≡ Refused (Unwritten (Faulty Substance))
+  pub given_back : old_line propane ≡ propane_line
+  pub taken_in : line_verdict propane_line 22 ≡ Accepted propane
+  pub same_line : changed 17 mass heat 5 ≡ propane_line
+  pub no_room : line_verdict propane_line 21 ≡ Refused (Unwritten Space)
+  pub empty_line : line_verdict [] 22 ≡ Refused (Unwritten (Faulty Length))
+  pub letters_G : line_verdict (replicate 116 71) 22 ≡ Refused (Unwritten (Faulty Digit))
+  pub lost_heat_lem : line_verdict (changed 17 mass little 5) 22 ≡ Refused (Unwritten (Faulty Quantity))
+  pub tag_before_double : line_verdict (changed 17 mass infinite 6) 22 ≡ Refused Tag
+  pub double_before_substance : line_verdict (changed 76 below heat 5) 22 ≡ Refused Double
+  pub substance_before_lost_heat : line_verdict (changed 76 mass little 5) 22 ≡ Refused (Unwritten (Faulty Substance))
   -- the way back of 24 bytes: 101,300 Pa written out goes, 80,000 Pa is 19, before 8 and after 6
-  pub standard-air : frameVerdict (bytes_of (longer standardDigits)) 116 ≡ back.Accepted propane
-  pub no-room-back : frameVerdict (bytes_of (longer standardDigits)) 115 ≡ back.Refused returns.Space
-  pub air-before-space : frameVerdict (bytes_of (longer mountainDigits)) 0 ≡ back.Refused returns.Air
-  pub heat-before-air : frameVerdict (bytes_of (thirdLine ++ mountainDigits)) 0 ≡ back.Refused (returns.Faulty Heat)
+  pub standard_air : frame_verdict (bytes_of (longer standard_digits)) 116 ≡ back.Accepted propane
+  pub no_room_back : frame_verdict (bytes_of (longer standard_digits)) 115 ≡ back.Refused returns.Space
+  pub air_before_space : frame_verdict (bytes_of (longer mountain_digits)) 0 ≡ back.Refused returns.Air
+  pub heat_before_air : frame_verdict (bytes_of (third_line ++ mountain_digits)) 0 ≡ back.Refused (returns.Faulty Heat)
 
 pub examples : Examples
-unfolding frameVerdict lastTests frameTests fieldTests airIn fields_of betas betaOf lineVerdict lineTests readingTests wholeTests writableTests first_of held valueTests quantityOutside heatMissing digitOf allDigits bytes_of upper digitsOf settings one four eight fieldBytes old_of oldBytes misplaced unusableIn case_of lostHeat oldCaseOf unusable rounded of_bits to_bits lt of_int round
+unfolding frame_verdict last_tests frame_tests field_tests air_in fields_of betas beta_of line_verdict line_tests reading_tests whole_tests writable_tests first_of held value_tests quantity_outside heat_missing digit_of all_digits bytes_of upper digits_of settings one four eight field_bytes old_of old_bytes misplaced unusable_in case_of lost_heat old_case_of unusable rounded of_bits to_bits lt of_int round
 examples =
     record {
       given_back = refl;
       taken_in = refl;
       same_line = refl;
       no_room = refl;
-      empty-line = refl;
-      letters-G = refl;
-      lost-heat = refl;
-      tag-before-double = refl;
-      double-before-substance = refl;
-      substance-before-lost-heat = refl;
-      standard-air = refl;
-      no-room-back = refl;
-      air-before-space = refl;
-      heat-before-air = refl;
+      empty_line = refl;
+      letters_G = refl;
+      lost_heat_lem = refl;
+      tag_before_double = refl;
+      double_before_substance = refl;
+      substance_before_lost_heat = refl;
+      standard_air = refl;
+      no_room_back = refl;
+      air_before_space = refl;
+      heat_before_air = refl;
     }

@@ -9,7 +9,7 @@ use Rattle.std.proofs.Math.Decide.{dec_le}
 use Rattle.std.proofs.Math.ListN.{get_or-eq_default}
 use Rattle.std.proofs.Math.Seq.{get_or-append_seam, get_or-set_other}
 use Rattle.places.specs.Holes.{vacant, ahead, trim, at, added, withdrawn}
-use Rattle.places.specs.laws.Trims.{getD-trim}
+use Rattle.places.specs.laws.Trims.{get_d_trim}
 
 module _ {A : Type 0} where
   others : (xs : List (Option A)) (a : A) (i : ℕ) → (i ≡ length xs → ⊥) → get_or (xs ++ (some a ∷ [])) i none ≡ get_or xs i none
@@ -19,44 +19,44 @@ module _ {A : Type 0} where
   others (x ∷ xs) a (suc i) h = others xs a i (λ e. h (ap suc e))
 
   -- the case stands right after the last, and every other place holds what it held
-  pub added-there : (xs : List (Option A)) (a : A) → at (added xs a) (length xs + 1) ≡ some a
+  pub added_there : (xs : List (Option A)) (a : A) → at (added xs a) (length xs + 1) ≡ some a
   unfolding at added
-  added-there xs a = rw (add-one (length xs)) (get_or-append_seam xs (some a) [] none)
+  added_there xs a = rw (add-one (length xs)) (get_or-append_seam xs (some a) [] none)
 
-  pub added-others : (xs : List (Option A)) (a : A) (k : ℕ) → (k ≡ length xs + 1 → ⊥) → at (added xs a) k ≡ at xs k
+  pub added_others : (xs : List (Option A)) (a : A) (k : ℕ) → (k ≡ length xs + 1 → ⊥) → at (added xs a) k ≡ at xs k
   unfolding at added
-  added-others xs a zero h = refl
-  added-others xs a (suc i) h = others xs a i (λ e. h (omega arith))
+  added_others xs a zero h = refl
+  added_others xs a (suc i) h = others xs a i (λ e. h (omega arith))
 
-  hole-there : (xs : List (Option A)) (i : ℕ) → get_or (set xs i none) i none ≡ none
-  hole-there xs i = go (dec_le (suc i) (length xs))
+  hole_there : (xs : List (Option A)) (i : ℕ) → get_or (set xs i none) i none ≡ none
+  hole_there xs i = go (dec_le (suc i) (length xs))
     where
       go : Dec (suc i ≤ length xs) → get_or (set xs i none) i none ≡ none
       go (yes h) = get_or-set_same xs i none none h
       go (no h) = get_or-eq_default (set xs i none) none (omega (arith, length-set xs i none))
 
   -- the place holds nothing, and every other place holds what it held
-  pub withdrawn-there : (xs : List (Option A)) (k : ℕ) → at (withdrawn xs k) k ≡ none
+  pub withdrawn_there : (xs : List (Option A)) (k : ℕ) → at (withdrawn xs k) k ≡ none
   unfolding at withdrawn
-  withdrawn-there xs zero = refl
-  withdrawn-there xs (suc i) = getD-trim (set xs i none) i ∙ hole-there xs i
+  withdrawn_there xs zero = refl
+  withdrawn_there xs (suc i) = get_d_trim (set xs i none) i ∙ hole_there xs i
 
-  pub withdrawn-others : (xs : List (Option A)) (k j : ℕ) → (j ≡ k → ⊥) → at (withdrawn xs k) j ≡ at xs j
+  pub withdrawn_others : (xs : List (Option A)) (k j : ℕ) → (j ≡ k → ⊥) → at (withdrawn xs k) j ≡ at xs j
   unfolding at withdrawn
-  withdrawn-others xs zero j h = refl
-  withdrawn-others xs (suc i) zero h = refl
-  withdrawn-others xs (suc i) (suc j) h = getD-trim (set xs i none) j ∙ get_or-set_other xs i j none none (λ e. h (ap suc e))
+  withdrawn_others xs zero j h = refl
+  withdrawn_others xs (suc i) zero h = refl
+  withdrawn_others xs (suc i) (suc j) h = get_d_trim (set xs i none) j ∙ get_or-set_other xs i j none none (λ e. h (ap suc e))
 
-  end-ahead : (x : Option A) (t : List (Option A)) → 0 < length (ahead x t) → (0 < length t → vacant (at t (length t)) ≡ false)
+  end_ahead : (x : Option A) (t : List (Option A)) → 0 < length (ahead x t) → (0 < length t → vacant (at t (length t)) ≡ false)
       → vacant (at (ahead x t) (length (ahead x t))) ≡ false
   unfolding ahead at
-  end-ahead none [] l h = absurd (omega arith)
-  end-ahead none (y ∷ ys) l h = h (omega arith)
-  end-ahead (some a) [] l h = refl
-  end-ahead (some a) (y ∷ ys) l h = h (omega arith)
+  end_ahead none [] l h = absurd (omega arith)
+  end_ahead none (y ∷ ys) l h = h (omega arith)
+  end_ahead (some a) [] l h = refl
+  end_ahead (some a) (y ∷ ys) l h = h (omega arith)
 
   -- a list without holes at its end is empty, or its last place holds a case
   pub last_taken : (xs : List (Option A)) → 0 < length (trim xs) → vacant (at (trim xs) (length (trim xs))) ≡ false
   unfolding trim
   last_taken [] l = absurd (omega arith)
-  last_taken (x ∷ xs) l = end-ahead x (trim xs) l (last_taken xs)
+  last_taken (x ∷ xs) l = end_ahead x (trim xs) l (last_taken xs)

@@ -6,20 +6,20 @@ use Rattle.places.specs.Holes.{ahead, trim, added, withdrawn, closed}
 
 module _ {A : Type 0} (a b c : A) where
   -- a gap is not filled
-  pub gap-stays : added (withdrawn (added (added [] a) b) 1) c ≡ none ∷ some b ∷ some c ∷ []
+  pub gap_stays : added (withdrawn (added (added [] a) b) 1) c ≡ none ∷ some b ∷ some c ∷ []
   unfolding added withdrawn trim ahead
-  gap-stays = refl
+  gap_stays = refl
 
   -- a place past the last is no gap
-  pub last-again : added (withdrawn (added (added [] a) b) 2) c ≡ some a ∷ some c ∷ []
+  pub last_again : added (withdrawn (added (added [] a) b) 2) c ≡ some a ∷ some c ∷ []
   unfolding added withdrawn trim ahead
-  last-again = refl
+  last_again = refl
 
   -- nor are gaps before it, once it goes
   pub none_left : withdrawn (withdrawn (added (added [] a) b) 1) 2 ≡ []
   unfolding added withdrawn trim ahead
   none_left = refl
 
-  pub order-kept : closed (withdrawn (added (added (added [] a) b) c) 2) ≡ some a ∷ some c ∷ []
+  pub order_kept : closed (withdrawn (added (added (added [] a) b) c) 2) ≡ some a ∷ some c ∷ []
   unfolding added withdrawn closed trim ahead
-  order-kept = refl
+  order_kept = refl

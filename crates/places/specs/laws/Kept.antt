@@ -7,39 +7,39 @@ use Rattle.std.proofs.Math.Option.{Option, none, some, none-ne-some, some-inject
 use Rattle.std.proofs.Common.{arith}
 use Rattle.std.proofs.Math.ListN.{length-append, length-set}
 use Rattle.places.specs.Holes.{ahead, trim, added, withdrawn, closed, Plain, Each}
-use Rattle.places.specs.laws.Trims.{trim-trim, trim-append-case, length-trim}
-use Rattle.places.specs.laws.Closings.{closed-length, trim-closed}
+use Rattle.places.specs.laws.Trims.{trim_trim, trim_append_case, length_trim}
+use Rattle.places.specs.laws.Closings.{closed_length, trim_closed}
 
 module _ {A : Type 0} where
-  pub plain-added : (xs : List (Option A)) (a : A) → (length xs ≡ 64 → ⊥) → Plain xs → Plain (added xs a)
+  pub plain_added : (xs : List (Option A)) (a : A) → (length xs ≡ 64 → ⊥) → Plain xs → Plain (added xs a)
   unfolding added
-  plain-added xs a h p = record { most = omega (arith, p.most, h, length-append xs (some a ∷ [])); trimmed = trim-append-case xs a }
+  plain_added xs a h p = record { most = omega (arith, p.most, h, length-append xs (some a ∷ [])); trimmed = trim_append_case xs a }
 
-  pub plain-withdrawn : (xs : List (Option A)) (k : ℕ) → Plain xs → Plain (withdrawn xs k)
+  pub plain_withdrawn : (xs : List (Option A)) (k : ℕ) → Plain xs → Plain (withdrawn xs k)
   unfolding withdrawn
-  plain-withdrawn xs zero p = p
-  plain-withdrawn xs (suc i) p =
-      record { most = omega (arith, length-trim (set xs i none), length-set xs i none, p.most); trimmed = trim-trim (set xs i none) }
+  plain_withdrawn xs zero p = p
+  plain_withdrawn xs (suc i) p =
+      record { most = omega (arith, length_trim (set xs i none), length-set xs i none, p.most); trimmed = trim_trim (set xs i none) }
 
   pub plain_closed : (xs : List (Option A)) → Plain xs → Plain (closed xs)
-  plain_closed xs p = record { most = omega (arith, closed-length xs, p.most); trimmed = trim-closed xs }
+  plain_closed xs p = record { most = omega (arith, closed_length xs, p.most); trimmed = trim_closed xs }
 
 module _ {A : Type 0} (P : A → Type 0) where
-  each-ahead : (x : Option A) (xs : List (Option A)) → Each P (x ∷ xs) → Each P (ahead x xs)
+  each_ahead : (x : Option A) (xs : List (Option A)) → Each P (x ∷ xs) → Each P (ahead x xs)
   unfolding ahead Each
-  each-ahead none [] h = tt
-  each-ahead none (y ∷ ys) h = h
-  each-ahead (some a) xs h = h
+  each_ahead none [] h = tt
+  each_ahead none (y ∷ ys) h = h
+  each_ahead (some a) xs h = h
 
   each-cons : (x : Option A) (xs ys : List (Option A)) → (Each P xs → Each P ys) → Each P (x ∷ xs) → Each P (x ∷ ys)
   unfolding Each
   each-cons none xs ys f h = f h
   each-cons (some a) xs ys f h = (h.0, f h.1)
 
-  each-trim : (xs : List (Option A)) → Each P xs → Each P (trim xs)
+  each_trim : (xs : List (Option A)) → Each P xs → Each P (trim xs)
   unfolding trim
-  each-trim [] h = h
-  each-trim (x ∷ xs) h = each-ahead x (trim xs) (each-cons x xs (trim xs) (each-trim xs) h)
+  each_trim [] h = h
+  each_trim (x ∷ xs) h = each_ahead x (trim xs) (each-cons x xs (trim xs) (each_trim xs) h)
 
   each_hole : (xs : List (Option A)) (i : ℕ) → Each P xs → Each P (set xs i none)
   unfolding Each
@@ -49,22 +49,22 @@ module _ {A : Type 0} (P : A → Type 0) where
   each_hole (none ∷ xs) (suc i) h = each_hole xs i h
   each_hole (some a ∷ xs) (suc i) h = (h.0, each_hole xs i h.1)
 
-  pub each-added : (xs : List (Option A)) (a : A) → P a → Each P xs → Each P (added xs a)
+  pub each_added : (xs : List (Option A)) (a : A) → P a → Each P xs → Each P (added xs a)
   unfolding added Each
-  each-added [] a p h = (p, tt)
-  each-added (none ∷ xs) a p h = each-added xs a p h
-  each-added (some b ∷ xs) a p h = (h.0, each-added xs a p h.1)
+  each_added [] a p h = (p, tt)
+  each_added (none ∷ xs) a p h = each_added xs a p h
+  each_added (some b ∷ xs) a p h = (h.0, each_added xs a p h.1)
 
-  pub each-withdrawn : (xs : List (Option A)) (k : ℕ) → Each P xs → Each P (withdrawn xs k)
+  pub each_withdrawn : (xs : List (Option A)) (k : ℕ) → Each P xs → Each P (withdrawn xs k)
   unfolding withdrawn
-  each-withdrawn xs zero h = h
-  each-withdrawn xs (suc i) h = each-trim (set xs i none) (each_hole xs i h)
+  each_withdrawn xs zero h = h
+  each_withdrawn xs (suc i) h = each_trim (set xs i none) (each_hole xs i h)
 
-  pub each-closed : (xs : List (Option A)) → Each P xs → Each P (closed xs)
+  pub each_closed : (xs : List (Option A)) → Each P xs → Each P (closed xs)
   unfolding Each closed
-  each-closed [] h = h
-  each-closed (none ∷ xs) h = each-closed xs h
-  each-closed (some a ∷ xs) h = (h.0, each-closed xs h.1)
+  each_closed [] h = h
+  each_closed (none ∷ xs) h = each_closed xs h
+  each_closed (some a ∷ xs) h = (h.0, each_closed xs h.1)
 
   -- at a place that holds one
   pub each_at : (xs : List (Option A)) (i : ℕ) (a : A) → Each P xs → get_or xs i none ≡ some a → P a
@@ -75,8 +75,8 @@ module _ {A : Type 0} (P : A → Type 0) where
   each_at (none ∷ xs) (suc i) a h e = each_at xs i a h e
   each_at (some b ∷ xs) (suc i) a h e = each_at xs i a h.1 e
 
-pub each-weaker : {A : Type 0} {P Q : A → Type 0} → ((a : A) → P a → Q a) → (xs : List (Option A)) → Each P xs → Each Q xs
+pub each_weaker : {A : Type 0} {P Q : A → Type 0} → ((a : A) → P a → Q a) → (xs : List (Option A)) → Each P xs → Each Q xs
 unfolding Each
-each-weaker f [] h = h
-each-weaker f (none ∷ xs) h = each-weaker f xs h
-each-weaker f (some a ∷ xs) h = (f a h.0, each-weaker f xs h.1)
+each_weaker f [] h = h
+each_weaker f (none ∷ xs) h = each_weaker f xs h
+each_weaker f (some a ∷ xs) h = (f a h.0, each_weaker f xs h.1)

@@ -1,7 +1,7 @@
 -- `probits::probit1` meets its contract. Assumes nothing.
 use borrow.Author.Rules.{rules}
 use native.Mathlib.Omega.{arith}
-use Rattle.probits.proofs.Sums.{powers-summed, probit1-of}
+use Rattle.probits.proofs.Sums.{powers_summed, probit1_of}
 use Rattle.probits.proofs.probit1.Statement.{statement}
 use Rattle.probits.proofs.probit1.Tie as tie
 
@@ -15,10 +15,10 @@ add-requires : tie.Need-add-requires
 add-requires c κs = search rules
 
 falling-requires : tie.Need-falling-requires
-falling-requires c κs = powers-summed 2600 (omega arith) c.before.before.ratio-power.ensures c.before.ratio-power2.ensures c.add.ensures
+falling-requires c κs = powers_summed 2600 (omega arith) c.before.before.ratio_power.ensures c.before.ratio-power2.ensures c.add.ensures
 
 returns : tie.Need-returns
-returns c = probit1-of c.before.before.before.ratio-power.ensures c.before.before.ratio-power2.ensures c.before.add.ensures c.falling.ensures
+returns c = probit1_of c.before.before.before.ratio_power.ensures c.before.before.ratio-power2.ensures c.before.add.ensures c.falling.ensures
 
 pub probit1-spec : {M : Type 1} → statement M
 probit1-spec =

@@ -1,7 +1,7 @@
 -- `probits::probit2` meets its contract. Assumes nothing.
 use borrow.Author.Rules.{rules}
 use native.Mathlib.Omega.{arith}
-use Rattle.probits.proofs.Sums.{powers-summed, probit2-of}
+use Rattle.probits.proofs.Sums.{powers_summed, probit2_of}
 use Rattle.probits.proofs.probit2.Statement.{statement}
 use Rattle.probits.proofs.probit2.Tie as tie
 
@@ -15,10 +15,10 @@ add-requires : tie.Need-add-requires
 add-requires c κs = search rules
 
 falling-requires : tie.Need-falling-requires
-falling-requires c κs = powers-summed 2200 (omega arith) c.before.before.ratio-power.ensures c.before.ratio-power2.ensures c.add.ensures
+falling-requires c κs = powers_summed 2200 (omega arith) c.before.before.ratio_power.ensures c.before.ratio-power2.ensures c.add.ensures
 
 returns : tie.Need-returns
-returns c = probit2-of c.before.before.before.ratio-power.ensures c.before.before.ratio-power2.ensures c.before.add.ensures c.falling.ensures
+returns c = probit2_of c.before.before.before.ratio_power.ensures c.before.before.ratio-power2.ensures c.before.add.ensures c.falling.ensures
 
 pub probit2-spec : {M : Type 1} → statement M
 probit2-spec =

@@ -1,6 +1,6 @@
 -- `probits::probit3` meets its contract. Assumes nothing.
 use borrow.Author.Rules.{rules}
-use Rattle.probits.proofs.Sums.{lung-summed, probit3-of}
+use Rattle.probits.proofs.Sums.{lung_summed, probit3_of}
 use Rattle.probits.proofs.probit3.Statement.{statement}
 use Rattle.probits.proofs.probit3.Tie as tie
 
@@ -18,11 +18,11 @@ add-requires c κs = search rules
 
 falling-requires : tie.Need-falling-requires
 falling-requires c κs =
-    lung-summed c.before.before.before.before.requires.0 c.before.before.before.lung-pressure.ensures c.before.before.resistance.ensures c.before.quo.ensures c.add.ensures
+    lung_summed c.before.before.before.before.requires.0 c.before.before.before.lung-pressure.ensures c.before.before.resistance.ensures c.before.quo.ensures c.add.ensures
 
 returns : tie.Need-returns
 returns c =
-    probit3-of c.before.before.before.before.before.requires.0 c.before.before.before.before.lung-pressure.ensures c.before.before.before.resistance.ensures c.before.before.quo.ensures c.before.add.ensures c.falling.ensures
+    probit3_of c.before.before.before.before.before.requires.0 c.before.before.before.before.lung-pressure.ensures c.before.before.before.resistance.ensures c.before.before.quo.ensures c.before.add.ensures c.falling.ensures
 
 pub probit3-spec : {M : Type 1} → statement M
 probit3-spec =

@@ -1,6 +1,6 @@
 -- `probits::resistance` meets its contract. Assumes nothing.
 use borrow.Author.Rules.{rules}
-use Rattle.probits.proofs.Sums.{resistance-of}
+use Rattle.probits.proofs.Sums.{resistance_of}
 use Rattle.probits.proofs.resistance.Statement.{statement}
 use Rattle.probits.proofs.resistance.Tie as tie
 
@@ -17,7 +17,7 @@ mul-requires-2 : tie.Need-mul-requires-2
 mul-requires-2 c κs = search rules
 
 returns : tie.Need-returns
-returns c = resistance-of c.before.before.before.air-root.ensures c.before.before.root.ensures c.before.mul.ensures c.mul2.ensures
+returns c = resistance_of c.before.before.before.air-root.ensures c.before.before.root.ensures c.before.mul.ensures c.mul2.ensures
 
 pub resistance-spec : {M : Type 1} → statement M
 resistance-spec =

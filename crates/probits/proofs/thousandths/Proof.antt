@@ -3,7 +3,7 @@ use mathlib.Core.Path.{sym, subst₂}
 use lib.IntN.{ℤ}
 use borrow.Author.Rules.{rules}
 use Rattle.probits.specs.Terms.{CountedIn}
-use Rattle.probits.proofs.Counting.{counted, reads-lower, reads-upper}
+use Rattle.probits.proofs.Counting.{counted, reads_lower, reads_upper}
 use Rattle.probits.proofs.thousandths.Statement.{statement}
 use Rattle.probits.proofs.thousandths.Tie as tie
 
@@ -16,7 +16,7 @@ ceil-milli-requires c κs = search rules
 returns : tie.Need-returns
 returns c =
     let k = counted c.before.before.requires c.before.floor-milli.ensures c.ceil-milli.ensures in
-    subst₂ (λ (a b : ℤ). CountedIn c.before.before.args.y a b) (sym (reads-lower k.closed)) (sym (reads-upper k.closed)) k
+    subst₂ (λ (a b : ℤ). CountedIn c.before.before.args.y a b) (sym (reads_lower k.closed)) (sym (reads_upper k.closed)) k
 
 pub thousandths-spec : {M : Type 1} → statement M
 thousandths-spec = tie.close (tie.spec floor-milli-requires ceil-milli-requires returns)

@@ -5,8 +5,8 @@ use native.Mathlib.Omega.{arith}
 use borrow.Author.Rules.{rules}
 use Rattle.guidance.specs.Distances.{farther, cube24}
 use Rattle.bisection.specs.Bisection.{Between, inside, raised, lowered, closed}
-use Rattle.receptor.specs.laws.Moved.{never-beyond, beyond-farther, placed-moved}
-use Rattle.receptor.specs.laws.Reach.{Within, Beyond, last-is}
+use Rattle.receptor.specs.laws.Moved.{never_beyond, beyond_farther, placed_moved}
+use Rattle.receptor.specs.laws.Reach.{Within, Beyond, last_is}
 use Rattle.receptor.proofs.farthest.Statement.{statement}
 use Rattle.receptor.proofs.farthest.Tie as tie
 
@@ -22,7 +22,7 @@ cloud-of-requires c κs = c.requires.0
 loop-holds : tie.Need-loop-init invariant-loop decreases-loop
 loop-holds c =
     let s = c.before in
-    (record { order = omega arith; low = never-beyond s.args.c s.args.air s.requires.0 s.requires.1; high = λ e f g. absurd (omega arith) }, omega arith, omega arith)
+    (record { order = omega arith; low = never_beyond s.args.c s.args.air s.requires.0 s.requires.1; high = λ e f g. absurd (omega arith) }, omega arith, omega arith)
 
 sub-loop : tie.Need-overflow-sub-loop invariant-loop decreases-loop
 sub-loop c = omega (arith, c.loop.invariant.0.order)
@@ -39,7 +39,7 @@ is-beyond-requires c κs =
     let s = l.before.before in
     let i = inside l.loop.low l.loop.high c.before.loop-test.true in
     rw c.moved.ensures
-    (placed-moved s.requires.0 l.before.cloud-of.ensures s.requires.1
+    (placed_moved s.requires.0 l.before.cloud-of.ensures s.requires.1
     (record { least = omega (arith, i.above, l.loop.invariant.1); most = omega (arith, i.below, l.loop.invariant.2) }))
 
 loop-less : tie.Need-loop-smaller invariant-loop decreases-loop
@@ -52,7 +52,7 @@ loop-again c =
     let t = c.before.before.before.loop-test.true in
     let found = ap (farther cube24 s.args.air) (sym c.before.before.moved.ensures) ∙ sym c.before.is-beyond.ensures ∙ c.if1.true in (
       lowered (Within s.args.air s.args.c) (Beyond s.args.air s.args.c 1000000) l.loop.invariant.0 t
-          (λ e f g. beyond-farther s.args.c s.args.air f found),
+          (λ e f g. beyond_farther s.args.c s.args.air f found),
       l.loop.invariant.1,
       omega (arith, inside _ _ t, l.loop.invariant.2),
     )
@@ -75,7 +75,7 @@ returns : tie.Need-returns invariant-loop decreases-loop
 returns c =
     let l = c.before in
     let s = l.before.before in
-    last-is s.args.air s.args.c 1000000 l.loop.low (omega (arith, l.loop.invariant.0.order, l.loop.invariant.2)) l.loop.invariant.0.low
+    last_is s.args.air s.args.c 1000000 l.loop.low (omega (arith, l.loop.invariant.0.order, l.loop.invariant.2)) l.loop.invariant.0.low
     (closed (Within s.args.air s.args.c) (Beyond s.args.air s.args.c 1000000) l.loop.invariant.0 c.loop-test.false)
 
 pub farthest-spec : {M : Type 1} → statement M

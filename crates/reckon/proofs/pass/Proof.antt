@@ -4,7 +4,7 @@ use mathlib.Core.Path.{◌≡◌, ◌∙◌}
 use native.Mathlib.Omega.{arith}
 use lib.ListN.{length}
 use borrow.Author.Rules.{rules}
-use Rattle.reckon.proofs.Passing.{Passing, pass-first, pass-ready, past-again, pass-less}
+use Rattle.reckon.proofs.Passing.{Passing, pass_first, pass_ready, past_again, pass_less}
 use Rattle.reckon.proofs.pass.Statement.{statement}
 use Rattle.reckon.proofs.pass.Tie as tie
 
@@ -15,7 +15,7 @@ abbrev decreases-loop : tie.decreases-loop
 decreases-loop part out₀ stream₀ used₀ out stream used = length part - used
 
 loop-holds : tie.Need-loop-init invariant-loop decreases-loop
-loop-holds c = pass-first c.before.before.args.part.now c.before.before.requires
+loop-holds c = pass_first c.before.before.args.part.now c.before.before.requires
 
 sub-relay : tie.Need-overflow-sub-relay invariant-loop decreases-loop
 sub-relay c = omega arith
@@ -29,14 +29,14 @@ part-relay-end c = search rules
 relay-requires : tie.Need-relay-requires invariant-loop decreases-loop
 relay-requires c κs =
     let loop = c.before.before.before in
-    pass-ready loop.before.before.before.requires loop.loop.invariant
+    pass_ready loop.before.before.before.requires loop.loop.invariant
 
 add-used : tie.Need-overflow-add-used invariant-loop decreases-loop
 add-used c =
     let done = c.before.before.before.before in
     let loop = done.before.before.before.before in
     let start = loop.before.before.before in
-    omega (arith, (past-again start.requires loop.loop.invariant done.relay.ensures).within, start.requires.numbers)
+    omega (arith, (past_again start.requires loop.loop.invariant done.relay.ensures).within, start.requires.numbers)
 
 same_length : tie.Need-same-length invariant-loop decreases-loop
 same_length c =
@@ -48,7 +48,7 @@ returns c =
     let done = c.before.before.before.before.before.before in
     let loop = done.before.before.before.before in
     record {
-      past = past-again loop.before.before.before.requires loop.loop.invariant done.relay.ensures;
+      past = past_again loop.before.before.before.requires loop.loop.invariant done.relay.ensures;
       whole = λ e. absurd (let z : ◌≡◌ {A = ℕ} 0 1 = cc in omega arith);
     }
 
@@ -56,7 +56,7 @@ loop-less : tie.Need-loop-smaller invariant-loop decreases-loop
 loop-less c =
     let done = c.before.before.before.before.before.before in
     let test = done.before.before.before in
-    pass-less test.before.before.before.before.requires test.before.loop.invariant done.relay.ensures test.loop-test.true
+    pass_less test.before.before.before.before.requires test.before.loop.invariant done.relay.ensures test.loop-test.true
 
 loop-again : tie.Need-loop-preserved invariant-loop decreases-loop
 loop-again c =
@@ -64,7 +64,7 @@ loop-again c =
     let loop = done.before.before.before.before in
     record {
       same = done.relay.auto.1.1.0 ∙ loop.loop.invariant.same;
-      past = past-again loop.before.before.before.requires loop.loop.invariant done.relay.ensures;
+      past = past_again loop.before.before.before.requires loop.loop.invariant done.relay.ensures;
     }
 
 same-length-2 : tie.Need-same-length-2 invariant-loop decreases-loop

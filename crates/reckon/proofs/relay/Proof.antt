@@ -2,7 +2,7 @@
 use mathlib.Core.Path.{sym}
 use native.Mathlib.Omega.{arith}
 use lib.Seq.{length-take-le}
-use Rattle.text.specs.laws.Runs.{feeds-progress}
+use Rattle.text.specs.laws.Runs.{feeds_progress}
 use Rattle.reckon.proofs.relay.Statement.{statement}
 use Rattle.reckon.proofs.relay.Tie as tie
 
@@ -36,7 +36,7 @@ returns c =
     let taken = fed.feed.ensures.taken in
     record {
       past = record { within = taken.used; reached = taken.reached };
-      goes = feeds-progress fed.before.before.before.before.requires fed.feed.ensures;
+      goes = feeds_progress fed.before.before.before.before.requires fed.feed.ensures;
     }
 
 pub relay-spec : {M : Type 1} → statement M

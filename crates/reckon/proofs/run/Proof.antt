@@ -3,7 +3,7 @@ use Prim.Native.Nat.{ℕ, ◌-◌}
 use mathlib.Core.Path.{◌≡◌, ◌∙◌}
 use native.Mathlib.Omega.{arith}
 use Rattle.reckon.specs.Reading.{budget}
-use Rattle.reckon.proofs.Running.{Running, run-first, run-buffers, run-ready, run-again}
+use Rattle.reckon.proofs.Running.{Running, run_first, run_buffers, run_ready, run_again}
 use Rattle.reckon.proofs.run.Statement.{statement}
 use Rattle.reckon.proofs.run.Tie as tie
 
@@ -19,13 +19,13 @@ start-requires c κs = tt
 loop-holds : tie.Need-loop-init invariant-loop decreases-loop
 loop-holds c =
     let entry = c.before.before.before in
-    run-first entry.args.input.now entry.args.out.now c.start.ensures
+    run_first entry.args.input.now entry.args.out.now c.start.ensures
 
 turn-requires : tie.Need-turn-requires invariant-loop decreases-loop
 turn-requires c κs =
     let test = c.before.before in
     let buffers = test.before.before.before.before.before.requires in
-    (run-buffers buffers test.before.loop.invariant, run-ready buffers test.before.loop.invariant (omega (arith, test.loop-test.true)))
+    (run_buffers buffers test.before.loop.invariant, run_ready buffers test.before.loop.invariant (omega (arith, test.loop-test.true)))
 
 same_length : tie.Need-same-length invariant-loop decreases-loop
 same_length c =
@@ -73,7 +73,7 @@ loop-again c =
     let done = c.before.before.before.before.before.before.before.before.before in
     let test = done.before.before.before in
     let loop = test.before in
-    run-again loop.before.before.before.before.requires loop.loop.invariant (omega (arith, test.loop-test.true))
+    run_again loop.before.before.before.before.requires loop.loop.invariant (omega (arith, test.loop-test.true))
     done.turn.auto.1.0
     done.turn.auto.1.1.0
     done.turn.ensures

@@ -13,15 +13,15 @@ abbrev pub among : List ℕ → ℕ → Bool
 among [] n = false
 among (k ∷ later) n = eqb k n || among later n
 
-fault-among : (f : Fault) → among numbers (number f) ≡ true
-fault-among Length = refl
-fault-among Digit = refl
-fault-among Substance = refl
-fault-among State = refl
-fault-among Placement = refl
-fault-among Surroundings = refl
-fault-among Quantity = refl
-fault-among Heat = refl
+fault_among : (f : Fault) → among numbers (number f) ≡ true
+fault_among Length = refl
+fault_among Digit = refl
+fault_among Substance = refl
+fault_among State = refl
+fault_among Placement = refl
+fault_among Surroundings = refl
+fault_among Quantity = refl
+fault_among Heat = refl
 
-pub no-fault : (n : ℕ) → among numbers n ≡ false → (f : Fault) → number f ≡ n → ⊥
-no-fault n h f e = true≢false (sym (fault-among f) ∙ ap (among numbers) e ∙ h)
+pub no_fault : (n : ℕ) → among numbers n ≡ false → (f : Fault) → number f ≡ n → ⊥
+no_fault n h f e = true≢false (sym (fault_among f) ∙ ap (among numbers) e ∙ h)

@@ -21,8 +21,8 @@ none_of false false true d e f h = absurd (true≢false h)
 none_of false false false true e f h = absurd (true≢false h)
 none_of false false false false true f h = absurd (true≢false h)
 
-pub none-applies : {a b c d e f : Bool} → a ≡ false → b ≡ false → c ≡ false → d ≡ false → e ≡ false → f ≡ false → (a || b || c || d || e || f) ≡ false
-none-applies p q r s t u = simp (p, q, r, s, t, u)
+pub none_applies : {a b c d e f : Bool} → a ≡ false → b ≡ false → c ≡ false → d ≡ false → e ≡ false → f ≡ false → (a || b || c || d || e || f) ≡ false
+none_applies p q r s t u = simp (p, q, r, s, t, u)
 
 module _ {R S : Type 0} (by : R → S) where
   -- what the first finds, else the second
@@ -31,30 +31,30 @@ module _ {R S : Type 0} (by : R → S) where
   or_else (some r) rest = some (by r)
 
   -- tests behind others: they decide where none of those applies
-  pub first-held : (ts : List (Test R)) (us : List (Test S)) → first_of (held by ts ++ us) ≡ or_else (first_of ts) (first_of us)
+  pub first_held : (ts : List (Test R)) (us : List (Test S)) → first_of (held by ts ++ us) ≡ or_else (first_of ts) (first_of us)
   unfolding first_of held
-  first-held [] us = refl
-  first-held ((q when true) ∷ later) us = refl
-  first-held ((q when false) ∷ later) us = first-held later us
+  first_held [] us = refl
+  first_held ((q when true) ∷ later) us = refl
+  first_held ((q when false) ∷ later) us = first_held later us
 
   -- so they find the same behind lists that find the same, and nothing new behind one that finds something
-  pub same-held : (ts us : List (Test R)) (vs : List (Test S)) → first_of ts ≡ first_of us → first_of (held by ts ++ vs) ≡ first_of (held by us ++ vs)
-  same-held ts us vs e = first-held ts vs ∙ ap (λ (o : Option R). or_else o (first_of vs)) e ∙ sym (first-held us vs)
+  pub same_held : (ts us : List (Test R)) (vs : List (Test S)) → first_of ts ≡ first_of us → first_of (held by ts ++ vs) ≡ first_of (held by us ++ vs)
+  same_held ts us vs e = first_held ts vs ∙ ap (λ (o : Option R). or_else o (first_of vs)) e ∙ sym (first_held us vs)
 
-  pub found-held : (ts : List (Test R)) (r : R) (vs : List (Test S)) → first_of ts ≡ some r → first_of (held by ts ++ vs) ≡ some (by r)
-  found-held ts r vs e = first-held ts vs ∙ ap (λ (o : Option R). or_else o (first_of vs)) e
+  pub found_held : (ts : List (Test R)) (r : R) (vs : List (Test S)) → first_of ts ≡ some r → first_of (held by ts ++ vs) ≡ some (by r)
+  found_held ts r vs e = first_held ts vs ∙ ap (λ (o : Option R). or_else o (first_of vs)) e
 
-  pub neither-found : (a : Option R) (b : Option S) → or_else a b ≡ none → (a ≡ none) × (b ≡ none)
-  neither-found none b h = (refl, h)
-  neither-found (some r) b h = absurd (some-ne-none (by r) h)
+  pub neither_found : (a : Option R) (b : Option S) → or_else a b ≡ none → (a ≡ none) × (b ≡ none)
+  neither_found none b h = (refl, h)
+  neither_found (some r) b h = absurd (some-ne-none (by r) h)
 
 module _ {R : Type 0} where
   -- tests of one type behind others
-  pub first-append : (ts us : List (Test R)) → first_of (ts ++ us) ≡ or_else (λ (r : R). r) (first_of ts) (first_of us)
+  pub first_append : (ts us : List (Test R)) → first_of (ts ++ us) ≡ or_else (λ (r : R). r) (first_of ts) (first_of us)
   unfolding first_of
-  first-append [] us = refl
-  first-append ((q when true) ∷ later) us = refl
-  first-append ((q when false) ∷ later) us = first-append later us
+  first_append [] us = refl
+  first_append ((q when true) ∷ later) us = refl
+  first_append ((q when false) ∷ later) us = first_append later us
 
   -- no test of a list applies
   abbrev pub Passed : List (Test R) → Type 0

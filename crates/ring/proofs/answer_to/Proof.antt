@@ -1,6 +1,6 @@
 -- `ring::answer_to` meets its contract: what tests 1 to 6 found stands, else the ring in the case's own air. Assumes nothing.
 use mathlib.Core.Path.{refl}
-use Rattle.guidance.specs.laws.Domain.{own-air}
+use Rattle.guidance.specs.laws.Domain.{own_air}
 use borrow.Author.Rules.{rules}
 use Rattle.ring.proofs.answer_to.Statement.{statement}
 use Rattle.ring.proofs.answer_to.Tie as tie
@@ -12,7 +12,7 @@ ring-for-requires : tie.Need-ring-for-requires
 ring-for-requires c κs =
     let known = c.before.before in
     let h = known.before.before.requires _ known.s.given.1 in
-    rw c.air-of.ensures (h, own-air h.fields)
+    rw c.air-of.ensures (h, own_air h.fields)
 
 returns : tie.Need-returns
 returns c = rw c.before.before.before.s.given.1 (rw c.before.air-of.ensures at c.ring-for.ensures)

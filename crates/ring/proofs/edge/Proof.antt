@@ -4,8 +4,8 @@ use native.Mathlib.Omega.{arith}
 use borrow.Author.Rules.{rules}
 use Rattle.bisection.specs.Bisection.{Between, inside, raised, lowered, closed}
 use Rattle.ring.specs.Searching.{Reaches, Below}
-use Rattle.ring.specs.laws.Standing.{standing-nearer}
-use Rattle.ring.specs.laws.Sides.{reached-at, below_at}
+use Rattle.ring.specs.laws.Standing.{standing_nearer}
+use Rattle.ring.specs.laws.Sides.{reached_at, below_at}
 use Rattle.ring.proofs.edge.Statement.{statement}
 use Rattle.ring.proofs.edge.Tie as tie
 
@@ -28,7 +28,7 @@ pressure-at-requires : tie.Need-pressure-at-requires invariant-loop decreases-lo
 pressure-at-requires c κs =
     let l = c.before in
     let i = inside l.loop.low l.loop.high c.loop-test.true in
-    standing-nearer l.before.requires.standing (omega (arith, l.before.requires.least, l.loop.invariant.1, i.above)) (omega (arith, l.loop.invariant.2, i.below))
+    standing_nearer l.before.requires.standing (omega (arith, l.before.requires.least, l.loop.invariant.1, i.above)) (omega (arith, l.loop.invariant.2, i.below))
 
 end-of-requires : tie.Need-end-of-requires invariant-loop decreases-loop
 end-of-requires c κs = search rules
@@ -55,7 +55,7 @@ loop-again-2 c =
     let l = c.before.before.before.before in
     let a = l.before.args in
     let t = c.before.before.before.loop-test.true in
-    let found = reached-at c.before.before.pressure-at.ensures c.before.end_of_lem.ensures c.if1.false in (
+    let found = reached_at c.before.before.pressure-at.ensures c.before.end_of_lem.ensures c.if1.false in (
       raised (Reaches a.side a.air a.c a.threshold) (Below a.side a.air a.c a.threshold) l.loop.invariant.0 t found,
       omega (arith, inside _ _ t, l.loop.invariant.1),
       l.loop.invariant.2,

@@ -1,7 +1,7 @@
 -- `ring::ring_for` meets its contract: test 9, then the search. Assumes nothing.
 use mathlib.Core.Path.{sym, ◌∙◌}
 use borrow.Author.Rules.{rules}
-use Rattle.ring.specs.laws.Entries.{outside-limits, within-limits}
+use Rattle.ring.specs.laws.Entries.{outside_limits, within_limits}
 use Rattle.ring.proofs.ring_for.Statement.{statement}
 use Rattle.ring.proofs.ring_for.Tie as tie
 
@@ -20,12 +20,12 @@ returns-2 : tie.Need-returns-2
 returns-2 c =
     let e = c.before in
     let a = e.before.before.args in
-    within-limits a.air a.c a.threshold c.search.result (sym e.before.is-outside.ensures ∙ e.if1.false) c.search.ensures
+    within_limits a.air a.c a.threshold c.search.result (sym e.before.is-outside.ensures ∙ e.if1.false) c.search.ensures
 
 returns : tie.Need-returns
 returns c =
     let a = c.before.before.args in
-    outside-limits a.air a.c a.threshold (sym c.before.is-outside.ensures ∙ c.if1.true)
+    outside_limits a.air a.c a.threshold (sym c.before.is-outside.ensures ∙ c.if1.true)
 
 pub ring-for-spec : {M : Type 1} → statement M
 ring-for-spec =

@@ -8,7 +8,7 @@ use Rattle.guidance.specs.declared.Case.{Case}
 use Rattle.guidance.specs.Waves.{overpressure}
 use Rattle.layout.specs.declared.Ends.{Ends}
 use Rattle.blast.specs.WaveEnds.{WaveEnds}
-use Rattle.blast.specs.Ending.{wave-ends}
+use Rattle.blast.specs.Ending.{wave_ends}
 use Rattle.receptor.specs.Receptor.{moved, farthest}
 use Rattle.ring.specs.declared.Side.{Side}
 use Rattle.ring.specs.declared.Side.TheVariants.{Lower, Upper}
@@ -23,7 +23,7 @@ pub record Pair (air : ℕ) (c : Case) (Good : Ends → Type 0) (d : ℕ) (e : E
 
 module _ {air : ℕ} {c : Case} {Good : Ends → Type 0} where
   found : {d : ℕ} (p : PressureAt air c d) → Good p.ends → Pair air c Good d p.ends
-  found p g = record { holds = wave-ends p.ended; good = g }
+  found p g = record { holds = wave_ends p.ended; good = g }
 
   found_at : {d n : ℕ} (p : PressureAt air c n) → Good p.ends → d ≡ n → Pair air c Good d p.ends
   found_at p g e = subst (λ (m : ℕ). Pair air c Good m p.ends) (sym e) (found p g)
@@ -46,7 +46,7 @@ Under side t e = end_of side e < t
 
 module _ {air : ℕ} {c : Case} {t : ℕ} where
   pub weak : Below Lower air c t 1 → IsWeak air c t
-  weak b = record { ends = λ d. b.pressure.ends; at_first = wave-ends b.pressure.ended; below = b.below }
+  weak b = record { ends = λ d. b.pressure.ends; at_first = wave_ends b.pressure.ended; below = b.below }
 
   -- where the farthest distance is 1 cm, the pair at 1 cm says both
   pub strong : Reaches Lower air c t 1 → Reaches Upper air c t (farthest air c) → IsStrong air c t
@@ -54,7 +54,7 @@ module _ {air : ℕ} {c : Case} {t : ℕ} where
       let last = at_last r k in
       record {
         ends = λ d. cond (eqb d 1) r.pressure.ends k.pressure.ends;
-        at_first = wave-ends r.pressure.ended;
+        at_first = wave_ends r.pressure.ended;
         at_last = last.holds;
         reaches = r.reaches;
         not-below = last.good;
@@ -112,11 +112,11 @@ module _
   at_inner : Pair air c (Reaching Lower t) inner (ends inner)
   at_inner = rw (near inner (omega arith), eq-eqb inner inner refl) (found a.pressure a.reaches)
 
-  at-outer : Pair air c (Under Upper t) (r + 1) (ends (r + 1))
-  at-outer = rw (far (r + 1) (omega arith), eq-eqb (r + 1) (r + 1) refl) (found q.pressure q.below)
+  at_outer : Pair air c (Under Upper t) (r + 1) (ends (r + 1))
+  at_outer = rw (far (r + 1) (omega arith), eq-eqb (r + 1) (r + 1) refl) (found q.pressure q.below)
 
-  after-inner : Pair air c (Under Lower t) (inner + 1) (ends (inner + 1))
-  after-inner = go (dec_le (inner + 1) r)
+  after_inner : Pair air c (Under Lower t) (inner + 1) (ends (inner + 1))
+  after_inner = go (dec_le (inner + 1) r)
     where
       go : Dec (inner + 1 ≤ r) → Pair air c (Under Lower t) (inner + 1) (ends (inner + 1))
       go (yes h) = rw (between (inner + 1) (omega arith) h, eq-eqb (inner + 1) (inner + 1) refl) (found next.0 next.1.below)
@@ -124,8 +124,8 @@ module _
           rw (far (inner + 1) (omega arith), eq-eqb (inner + 1) (r + 1) (omega arith))
           (found_at q.pressure (omega (arith, q.below, in_order q.pressure)) (omega arith))
 
-  before-outer : Pair air c (Reaching Upper t) r (ends r)
-  before-outer = go (dec_le r inner)
+  before_outer : Pair air c (Reaching Upper t) r (ends r)
+  before_outer = go (dec_le r inner)
     where
       go : Dec (r ≤ inner) → Pair air c (Reaching Upper t) r (ends r)
       go (yes h) =
@@ -145,14 +145,14 @@ module _
         most = omega arith;
         at_first = at_first.holds;
         at_inner = at_inner.holds;
-        after-inner = after-inner.holds;
-        before-outer = rw back before-outer.holds;
-        at-outer = at-outer.holds;
+        after_inner = after_inner.holds;
+        before_outer = rw back before_outer.holds;
+        at_outer = at_outer.holds;
         at_last = at_last.holds;
-        first-reaches = at_first.good;
-        inner-reaches = at_inner.good;
-        inner-next = after-inner.good;
-        outer-previous = rw back before-outer.good;
-        outer_below = at-outer.good;
-        last-below = at_last.good;
+        first_reaches = at_first.good;
+        inner_reaches = at_inner.good;
+        inner_next = after_inner.good;
+        outer_previous = rw back before_outer.good;
+        outer_below = at_outer.good;
+        last_below = at_last.good;
       }

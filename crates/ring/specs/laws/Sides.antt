@@ -4,7 +4,7 @@ use Rattle.std.proofs.Math.Decide.{dec_le}
 use Rattle.std.proofs.Common.{arith}
 use Rattle.exact.specs.Fraction.{◌⊑◌}
 use Rattle.exact.specs.laws.OneValue.{one_value}
-use Rattle.span.specs.Spans.{wholeF}
+use Rattle.span.specs.Spans.{whole_f}
 use Rattle.guidance.specs.declared.Case.{Case}
 use Rattle.guidance.specs.Waves.{overpressure}
 use Rattle.layout.specs.declared.Ends.{Ends}
@@ -16,30 +16,30 @@ use Rattle.ring.specs.Searching.{end_of, PressureAt, Reaches, Below}
 
 -- from what a call gives
 module _ {side : Side} {air : ℕ} {c : Case} {t d : ℕ} {e : Ends} (h : Ended (overpressure air (moved c d)) (2 ^ 24) e) where
-  pub reached-at : {n : ℕ} → n ≡ end_of side e → t ≤ n → Reaches side air c t d
-  reached-at q k = record { pressure = record { ends = e; ended = h }; reaches = omega arith }
+  pub reached_at : {n : ℕ} → n ≡ end_of side e → t ≤ n → Reaches side air c t d
+  reached_at q k = record { pressure = record { ends = e; ended = h }; reaches = omega arith }
 
   pub below_at : {n : ℕ} → n ≡ end_of side e → n < t → Below side air c t d
   below_at q k = record { pressure = record { ends = e; ended = h }; below = omega arith }
 
-whole-order : (m n : ℕ) → wholeF m ⊑ wholeF n → m ≤ n
-unfolding wholeF
-whole-order m n h = omega (arith, h.cross)
+whole_order : (m n : ℕ) → whole_f m ⊑ whole_f n → m ≤ n
+unfolding whole_f
+whole_order m n h = omega (arith, h.cross)
 
 module _ {air : ℕ} {c : Case} {d : ℕ} where
   -- the lower end is at most the upper end
   pub in_order : (p : PressureAt air c d) → p.ends.lower ≤ p.ends.upper
-  in_order p = whole-order _ _ p.ended.holds.ordered
+  in_order p = whole_order _ _ p.ended.holds.ordered
 
   -- two intervals at one distance hold the same number
   pub overlap : (p q : PressureAt air c d) → p.ends.lower ≤ q.ends.upper
-  overlap p q = whole-order _ _ (one_value p.ended.holds q.ended.holds).first
+  overlap p q = whole_order _ _ (one_value p.ended.holds q.ended.holds).first
 
-  pub upper-reaches : {t : ℕ} → Reaches Lower air c t d → Reaches Upper air c t d
-  upper-reaches r = record { pressure = r.pressure; reaches = omega (arith, r.reaches, in_order r.pressure) }
+  pub upper_reaches : {t : ℕ} → Reaches Lower air c t d → Reaches Upper air c t d
+  upper_reaches r = record { pressure = r.pressure; reaches = omega (arith, r.reaches, in_order r.pressure) }
 
-  pub lower-below : {t : ℕ} → Below Upper air c t d → Below Lower air c t d
-  lower-below r = record { pressure = r.pressure; below = omega (arith, r.below, in_order r.pressure) }
+  pub lower_below : {t : ℕ} → Below Upper air c t d → Below Lower air c t d
+  lower_below r = record { pressure = r.pressure; below = omega (arith, r.below, in_order r.pressure) }
 
   -- where the lower end of one is below the threshold and the upper end of another reaches it, both are so of one of the two
   pub both : {t : ℕ} → Below Lower air c t d → Reaches Upper air c t d

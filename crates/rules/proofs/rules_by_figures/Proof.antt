@@ -1,6 +1,6 @@
 -- `rules::rules_by_figures` meets its contract. Assumes nothing.
 use borrow.Author.Rules.{rules}
-use Rattle.rules.specs.laws.Deciding.{pressure-gave, impulse-gave}
+use Rattle.rules.specs.laws.Deciding.{pressure_gave, impulse_gave}
 use Rattle.rules.proofs.rules_by_figures.Statement.{statement}
 use Rattle.rules.proofs.rules_by_figures.Tie as tie
 
@@ -14,8 +14,8 @@ returns c =
     let slow = f.figures-of.ensures.deflagration in
     let fast = f.figures-of.ensures.detonation in
     record {
-      pressure = pressure-gave _ _ under h.near-is h.burns _ slow.pressure fast.pressure p.smaller-of.ensures;
-      impulse = impulse-gave _ _ under h.near-is h.burns _ slow.impulse fast.impulse c.smaller-of2.ensures;
+      pressure = pressure_gave _ _ under h.near_is h.burns _ slow.pressure fast.pressure p.smaller-of.ensures;
+      impulse = impulse_gave _ _ under h.near_is h.burns _ slow.impulse fast.impulse c.smaller-of2.ensures;
     }
 
 pub rules-by-figures-spec : {M : Type 1} → statement M

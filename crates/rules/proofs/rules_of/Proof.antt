@@ -1,15 +1,15 @@
 -- `rules::rules_of` meets its contract: all in the case's own air. Assumes nothing.
 use borrow.Author.Rules.{rules}
 use Rattle.guidance.specs.laws.Limits.{detonates, burns}
-use Rattle.guidance.specs.laws.Domain.{own-air}
-use Rattle.rules.specs.laws.Deciding.{detonation-gave}
+use Rattle.guidance.specs.laws.Domain.{own_air}
+use Rattle.rules.specs.laws.Deciding.{detonation_gave}
 use Rattle.rules.proofs.rules_of.Statement.{statement}
 use Rattle.rules.proofs.rules_of.Tie as tie
 
 is-near-field-requires : tie.Need-is-near-field-requires
 is-near-field-requires c κs =
     let f = c.before.before.requires.fields in
-    rw c.before.air-of.ensures (record { fields = f; cloud = c.cloud-of.ensures; pressure = own-air f })
+    rw c.before.air-of.ensures (record { fields = f; cloud = c.cloud-of.ensures; pressure = own_air f })
 
 returns : tie.Need-returns
 returns c =
@@ -18,8 +18,8 @@ returns c =
     let only = detonates n.before.cloud-of.ensures t.if1.true in
     let near = rw n.before.before.air-of.ensures at n.is-near-field.ensures in
     record {
-      pressure = detonation-gave _ _ _ _ only near c.detonation-rule.ensures;
-      impulse = detonation-gave _ _ _ _ only near c.detonation-rule.ensures;
+      pressure = detonation_gave _ _ _ _ only near c.detonation-rule.ensures;
+      impulse = detonation_gave _ _ _ _ only near c.detonation-rule.ensures;
     }
 
 rules-by-figures-requires : tie.Need-rules-by-figures-requires
@@ -30,7 +30,7 @@ rules-by-figures-requires c κs =
     let h = air.before.requires in
     rw air.air-of.ensures
     (record {
-      ready = record { accepted = h; cloud = k.cloud-of.ensures; pressure = own-air h.fields };
+      ready = record { accepted = h; cloud = k.cloud-of.ensures; pressure = own_air h.fields };
       burns = burns k.cloud-of.ensures c.if1.false;
       near-is = rw air.air-of.ensures at n.is-near-field.ensures;
     })

@@ -1,7 +1,7 @@
 -- `rules::smaller_of` meets its contract. Assumes nothing.
 use mathlib.Core.Path.{sym, ◌∙◌}
 use borrow.Author.Rules.{rules}
-use Rattle.rules.specs.laws.Deciding.{by-deflagration, by-detonation}
+use Rattle.rules.specs.laws.Deciding.{by_deflagration, by_detonation}
 use Rattle.rules.proofs.smaller_of.Statement.{statement}
 use Rattle.rules.proofs.smaller_of.Tie as tie
 
@@ -9,14 +9,14 @@ returns : tie.Need-returns
 returns c =
     let t = c.before in
     let a = t.before.before.args in
-    by-deflagration a.f a.d a.under a.near (sym t.before.is_below.ensures ∙ t.if1.true) c.deflagration-rule.ensures
+    by_deflagration a.f a.d a.under a.near (sym t.before.is_below.ensures ∙ t.if1.true) c.deflagration-rule.ensures
 
 returns-2 : tie.Need-returns-2
 returns-2 c =
     let t = c.before in
     let s = t.before in
     let a = s.before.before.before.args in
-    by-detonation a.f a.d a.under a.near (sym s.is-below2.ensures ∙ t.if2.true) c.detonation-rule.ensures
+    by_detonation a.f a.d a.under a.near (sym s.is-below2.ensures ∙ t.if2.true) c.detonation-rule.ensures
 
 returns-3 : tie.Need-returns-3
 returns-3 c =

@@ -1,5 +1,5 @@
 -- `scan::next_word` meets its contract: its parts are the word's. Assumes nothing.
-use Rattle.scan.proofs.Reading.{word-is}
+use Rattle.scan.proofs.Reading.{word_is}
 use Rattle.std.proofs.Common.{rules}
 use Rattle.scan.proofs.next_word.Statement.{statement}
 use Rattle.scan.proofs.next_word.Tie as tie
@@ -29,7 +29,7 @@ returns : tie.Need-returns
 returns c =
     let a = c.before.before.before.before.before.before.args in
     let e = c.before.before.before.before.find.ensures.0 in
-    (word-is a.text.now a.from e c.before.lead-at.ensures c.before.before.number.ensures.0 c.after.ensures.0, search rules)
+    (word_is a.text.now a.from e c.before.lead-at.ensures c.before.before.number.ensures.0 c.after.ensures.0, search rules)
 
 pub next-word-spec : {M : Type 1} → statement M
 next-word-spec =

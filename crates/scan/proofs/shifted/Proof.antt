@@ -1,5 +1,5 @@
 -- `scan::shifted` meets its contract: each test is one of the definition's. Assumes nothing.
-use Rattle.scan.proofs.Reading.{below-zero, above-nine, one-too-many, one_more}
+use Rattle.scan.proofs.Reading.{below-zero, above_nine, one_too_many, one_more}
 use Rattle.std.proofs.Common.{rules}
 use Rattle.scan.proofs.shifted.Statement.{statement}
 use Rattle.scan.proofs.shifted.Tie as tie
@@ -11,10 +11,10 @@ returns : tie.Need-returns
 returns c = (below-zero _ c.before.wide.ensures.0 c.if1.true, search rules)
 
 returns-2 : tie.Need-returns-2
-returns-2 c = (above-nine _ c.before.before.wide.ensures.0 c.before.if1.false c.if2.true, search rules)
+returns-2 c = (above_nine _ c.before.before.wide.ensures.0 c.before.if1.false c.if2.true, search rules)
 
 returns-3 : tie.Need-returns-3
-returns-3 c = (one-too-many _ c.before.before.before.wide.ensures.0 c.before.before.if1.false c.before.if2.false c.if3.true, search rules)
+returns-3 c = (one_too_many _ c.before.before.before.wide.ensures.0 c.before.before.if1.false c.before.if2.false c.if3.true, search rules)
 
 mul-result : tie.Need-overflow-mul-result
 mul-result c = search rules

@@ -2,11 +2,11 @@
 use mathlib.Core.Path.{◌≡◌, refl}
 use Rattle.sheet.specs.declared.Vacancy.{Vacancy}
 use Rattle.sheet.specs.declared.Vacancy.TheVariants.{Vacant}
-use Rattle.sheet.specs.Refusals.{vacancyNumber}
+use Rattle.sheet.specs.Refusals.{vacancy_number}
 use Rattle.sheet.proofs.number_of_vacancy.Statement.{statement}
 use Rattle.sheet.proofs.number_of_vacancy.Tie as tie
 
-one_number : (v : Vacancy) → 18 ≡ vacancyNumber v
+one_number : (v : Vacancy) → 18 ≡ vacancy_number v
 one_number Vacant = refl
 
 returns : tie.Need-returns

@@ -4,11 +4,11 @@ use mathlib.Core.List.{[], ◌∷◌}
 use Rattle.refusals.specs.Faults.{filled}
 use Rattle.sheet.specs.declared.Vacancy.{Vacancy}
 use Rattle.sheet.specs.declared.Vacancy.TheVariants.{Vacant}
-use Rattle.sheet.specs.Refusals.{vacancyWord}
+use Rattle.sheet.specs.Refusals.{vacancy_word}
 use Rattle.sheet.proofs.word_of_vacancy.Statement.{statement}
 use Rattle.sheet.proofs.word_of_vacancy.Tie as tie
 
-one_word : (v : Vacancy) → 118 ∷ 97 ∷ 99 ∷ 97 ∷ 110 ∷ 116 ∷ 0 ∷ 0 ∷ 0 ∷ 0 ∷ 0 ∷ 0 ∷ [] ≡ filled (vacancyWord v)
+one_word : (v : Vacancy) → 118 ∷ 97 ∷ 99 ∷ 97 ∷ 110 ∷ 116 ∷ 0 ∷ 0 ∷ 0 ∷ 0 ∷ 0 ∷ 0 ∷ [] ≡ filled (vacancy_word v)
 one_word Vacant = refl
 
 returns : tie.Need-returns

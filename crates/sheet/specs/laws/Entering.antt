@@ -5,98 +5,98 @@ use Rattle.std.proofs.Common.{sym, subst, ◌∙◌, append_assoc, arith}
 use Rattle.std.proofs.Math.Option.{Option, none, some, none-ne-some}
 use borrow.Author.Tests.{eq-eqb, ne_eqb}
 use Rattle.guidance.specs.declared.Case.{Case}
-use Rattle.guidance.specs.AirPressure.{airOf}
+use Rattle.guidance.specs.AirPressure.{air_of}
 use Rattle.guidance.specs.Waves.{overpressure}
 use Rattle.hexadecimals.specs.Digits.{bytes_of}
 use Rattle.refusals.specs.declared.Fault.{Fault}
 use Rattle.refusals.specs.Order.{Test, ◌when◌, first_of, held}
-use Rattle.refusals.specs.laws.Order.{or_else, first-held, neither-found, passed}
+use Rattle.refusals.specs.laws.Order.{or_else, first_held, neither_found, passed}
 use Rattle.fields.specs.Bytes.{fields_of}
 use Rattle.limits.specs.declared.Checked.{Checked}
 use Rattle.limits.specs.declared.Checked.TheVariants.{Sound}
-use Rattle.limits.specs.Checks.{checkedBy}
-use Rattle.frame.specs.Tests.{frameTests, lineTests, beyond}
-use Rattle.frame.specs.Checks.{frameChecked, lineChecked}
+use Rattle.limits.specs.Checks.{checked_by}
+use Rattle.frame.specs.Tests.{frame_tests, line_tests, beyond}
+use Rattle.frame.specs.Checks.{frame_checked, line_checked}
 use Rattle.layout.specs.declared.Ends.{Ends}
 use Rattle.blast.specs.Promises.{Ended}
-use Rattle.blast.specs.Ending.{wave-ends}
+use Rattle.blast.specs.Ending.{wave_ends}
 use Rattle.places.specs.declared.Held.{Held}
 use Rattle.places.specs.declared.Content.TheVariants.{Taken}
 use Rattle.places.specs.Places.{stands_for}
-use Rattle.places.specs.laws.Contents.{stands-most, stored_next}
-use Rattle.totals.specs.Keeping.{afterAdding}
-use Rattle.totals.specs.laws.Changes.{right-added}
+use Rattle.places.specs.laws.Contents.{stands_most, stored_next}
+use Rattle.totals.specs.Keeping.{after_adding}
+use Rattle.totals.specs.laws.Changes.{right_added}
 use Rattle.sheet.specs.declared.Sheet.{Sheet}
 use Rattle.sheet.specs.declared.Added.{Added}
 use Rattle.sheet.specs.declared.Refusal.{Refusal}
 use Rattle.sheet.specs.declared.Refusal.TheVariants.{Faulty, Beyond, Full}
 use Rattle.sheet.specs.declared.Placing.TheVariants as placed
-use Rattle.sheet.specs.Tests.{full, ownTests, addTests}
+use Rattle.sheet.specs.Tests.{full, own_tests, add_tests}
 use Rattle.sheet.specs.Refusals.{number}
 use Rattle.sheet.specs.Ends.{UpperEnd}
-use Rattle.sheet.specs.Operations.{placing, adding, held_of, addFrame, addLine, refusal, act, list_of, Gives, DoesWith}
+use Rattle.sheet.specs.Operations.{placing, adding, held_of, add_frame, add_line, refusal, act, list_of, Gives, DoesWith}
 use Rattle.sheet.specs.Steps.{last, entered, EndOf, Enters}
 
 -- tests 7 and 17 decide where none of 1 to 6 applies
-first-added : (ts : List (Test Fault)) (c : Case) (xs : List (Option Held)) → first_of (addTests ts c xs) ≡ or_else Faulty (first_of ts) (last c xs)
-unfolding ownTests addTests
-first-added ts c xs =
+first_added : (ts : List (Test Fault)) (c : Case) (xs : List (Option Held)) → first_of (add_tests ts c xs) ≡ or_else Faulty (first_of ts) (last c xs)
+unfolding own_tests add_tests
+first_added ts c xs =
     ap first_of (append_assoc (held Faulty ts) ((Beyond when beyond c) ∷ []) ((Full when full xs) ∷ []))
-    ∙ first-held Faulty ts ((Beyond when beyond c) ∷ (Full when full xs) ∷ [])
+    ∙ first_held Faulty ts ((Beyond when beyond c) ∷ (Full when full xs) ∷ [])
 
 -- no test applies: each passed
-pub all-passed : (ts : List (Test Fault)) (c : Case) (xs : List (Option Held)) → first_of (addTests ts c xs) ≡ none
+pub all_passed : (ts : List (Test Fault)) (c : Case) (xs : List (Option Held)) → first_of (add_tests ts c xs) ≡ none
     → (first_of ts ≡ none) × (beyond c ≡ false) × (full xs ≡ false)
-all-passed ts c xs h =
-    let n = neither-found Faulty (first_of ts) (last c xs) (sym (first-added ts c xs) ∙ h) in
+all_passed ts c xs h =
+    let n = neither_found Faulty (first_of ts) (last c xs) (sym (first_added ts c xs) ∙ h) in
     let p = passed _ n.1 in
     (n.0, p.0, p.1.0)
 
 module _ (ts : List (Test Fault)) (c : Case) where
-  entered_by : (xs : List (Option Held)) (u : ℕ) → adding (first_of (addTests ts c xs)) xs (held_of c u) ≡ entered (checkedBy (first_of ts) c) xs u
+  entered_by : (xs : List (Option Held)) (u : ℕ) → adding (first_of (add_tests ts c xs)) xs (held_of c u) ≡ entered (checked_by (first_of ts) c) xs u
   unfolding adding
-  entered_by xs u = ap (λ (o : Option Refusal). adding o xs (held_of c u)) (first-added ts c xs) ∙ go (first_of ts)
+  entered_by xs u = ap (λ (o : Option Refusal). adding o xs (held_of c u)) (first_added ts c xs) ∙ go (first_of ts)
     where
-      go : (o : Option Fault) → adding (or_else Faulty o (last c xs)) xs (held_of c u) ≡ entered (checkedBy o c) xs u
+      go : (o : Option Fault) → adding (or_else Faulty o (last c xs)) xs (held_of c u) ≡ entered (checked_by o c) xs u
       go none = refl
       go (some f) = refl
 
   -- where tests 1 to 6 made c of the case, what entering promises is promised of c
-  module _ {s : Sheet} {k : Checked} {a : Added} (e : k ≡ checkedBy (first_of ts) c) (g : Enters s k a) where
-    entered-gives : Gives s (adding (first_of (addTests ts c (list_of s))) (list_of s) (held_of c g.upper)) a.sheet (placing a.answer)
-    entered-gives = rw (entered_by (list_of s) g.upper) (subst (λ (j : Checked). Gives s (entered j (list_of s) g.upper) a.sheet (placing a.answer)) e g.gives)
+  module _ {s : Sheet} {k : Checked} {a : Added} (e : k ≡ checked_by (first_of ts) c) (g : Enters s k a) where
+    entered_gives : Gives s (adding (first_of (add_tests ts c (list_of s))) (list_of s) (held_of c g.upper)) a.sheet (placing a.answer)
+    entered_gives = rw (entered_by (list_of s) g.upper) (subst (λ (j : Checked). Gives s (entered j (list_of s) g.upper) a.sheet (placing a.answer)) e g.gives)
 
-    entered-end : refusal (placing a.answer) ≡ none → UpperEnd c g.upper
-    entered-end z = go (first_of ts) (subst (λ (j : Checked). EndOf j g.upper) e (g.ends z))
+    entered_end : refusal (placing a.answer) ≡ none → UpperEnd c g.upper
+    entered_end z = go (first_of ts) (subst (λ (j : Checked). EndOf j g.upper) e (g.ends z))
       where
-        go : (o : Option Fault) → EndOf (checkedBy o c) g.upper → UpperEnd c g.upper
+        go : (o : Option Fault) → EndOf (checked_by o c) g.upper → UpperEnd c g.upper
         go none f = f
         go (some x) f = absurd f
 
 module _ {s : Sheet} {k : Checked} {a : Added} where
-  pub frame-adds : (frame : List ℕ) → k ≡ frameChecked frame → Enters s k a → DoesWith s (addFrame frame) a.sheet (placing a.answer)
-  unfolding act frameChecked
-  frame-adds frame e g =
+  pub frame_adds : (frame : List ℕ) → k ≡ frame_checked frame → Enters s k a → DoesWith s (add_frame frame) a.sheet (placing a.answer)
+  unfolding act frame_checked
+  frame_adds frame e g =
       record {
         upper = g.upper;
-        does = record { gives = entered-gives (frameTests frame) (fields_of frame) e g; ends = entered-end (frameTests frame) (fields_of frame) e g };
+        does = record { gives = entered_gives (frame_tests frame) (fields_of frame) e g; ends = entered_end (frame_tests frame) (fields_of frame) e g };
       }
 
-  pub line-adds : (line : List ℕ) → k ≡ lineChecked line → Enters s k a → DoesWith s (addLine line) a.sheet (placing a.answer)
-  unfolding act lineChecked
-  line-adds line e g =
+  pub line_adds : (line : List ℕ) → k ≡ line_checked line → Enters s k a → DoesWith s (add_line line) a.sheet (placing a.answer)
+  unfolding act line_checked
+  line_adds line e g =
       let c = fields_of (bytes_of line) in
-      record { upper = g.upper; does = record { gives = entered-gives (lineTests line) c e g; ends = entered-end (lineTests line) c e g } }
+      record { upper = g.upper; does = record { gives = entered_gives (line_tests line) c e g; ends = entered_end (line_tests line) c e g } }
 
 -- a refusal
-abbrev refusedWith : Sheet → Refusal → Added
-refusedWith s r = record { sheet = s; answer = placed.Refused r }
+abbrev refused_with : Sheet → Refusal → Added
+refused_with s r = record { sheet = s; answer = placed.Refused r }
 
 -- what is refused, whatever the end
-pub enters-refused : (s : Sheet) (a : Added) (r : Refusal) (k : Checked) → a ≡ refusedWith s r
+pub enters_refused : (s : Sheet) (a : Added) (r : Refusal) (k : Checked) → a ≡ refused_with s r
     → entered k (list_of s) 0 ≡ record { list = list_of s; told = placing (placed.Refused r) }
     → Enters s k a
-enters-refused s a r k e f =
+enters_refused s a r k e f =
     rw e
     (record {
       upper = 0;
@@ -105,36 +105,36 @@ enters-refused s a r k e f =
     })
 
 module _ (s : Sheet) (c : Case) (a : Added) where
-  pub by-7 : beyond c ≡ true → a ≡ refusedWith s Beyond → Enters s (Sound c) a
+  pub by_7 : beyond c ≡ true → a ≡ refused_with s Beyond → Enters s (Sound c) a
   unfolding first_of adding
-  by-7 h e = enters-refused s a Beyond (Sound c) e (rw h)
+  by_7 h e = enters_refused s a Beyond (Sound c) e (rw h)
 
-  pub by-17 : (n : ℕ) → beyond c ≡ false → n ≡ length (list_of s) → n ≡ 64 → a ≡ refusedWith s Full → Enters s (Sound c) a
+  pub by_17 : (n : ℕ) → beyond c ≡ false → n ≡ length (list_of s) → n ≡ 64 → a ≡ refused_with s Full → Enters s (Sound c) a
   unfolding first_of adding
-  by-17 n h f g e = enters-refused s a Full (Sound c) e (rw (h, eq-eqb (length (list_of s)) 64 (sym f ∙ g)))
+  by_17 n h f g e = enters_refused s a Full (Sound c) e (rw (h, eq-eqb (length (list_of s)) 64 (sym f ∙ g)))
 
 -- no 17: a place is left
-pub place-left : (s : Sheet) (n : ℕ) → length s.places.all ≡ 64 → n ≡ length (list_of s) → (n ≡ 64 → ⊥) → n < 64
+pub place_left : (s : Sheet) (n : ℕ) → length s.places.all ≡ 64 → n ≡ length (list_of s) → (n ≡ 64 → ⊥) → n < 64
 unfolding list_of
-place-left s n size f g = omega (arith, stands-most s.places size, f, g)
+place_left s n size f g = omega (arith, stands_most s.places size, f, g)
 
 -- no test applies: the case is taken, with an end that was found
-pub by-none : (s : Sheet) (c : Case) (a : Added) (n : ℕ) (e : Ends) → beyond c ≡ false → n ≡ length (list_of s) → (n ≡ 64 → ⊥)
-    → Ended (overpressure (airOf c) c) (2 ^ 24) e
+pub by_none : (s : Sheet) (c : Case) (a : Added) (n : ℕ) (e : Ends) → beyond c ≡ false → n ≡ length (list_of s) → (n ≡ 64 → ⊥)
+    → Ended (overpressure (air_of c) c) (2 ^ 24) e
     → Gives s (adding none (list_of s) (held_of c e.upper)) a.sheet (placing a.answer)
     → Enters s (Sound c) a
 unfolding first_of
-by-none s c a n e h f g found given =
+by_none s c a n e h f g found given =
     record {
       upper = e.upper;
       gives = rw (h, ne_eqb (length (list_of s)) 64 (λ i. g (f ∙ i))) given;
-      ends = λ z. record { lower = e.lower; ends = wave-ends found };
+      ends = λ z. record { lower = e.lower; ends = wave_ends found };
     }
 
 -- a case right after the last one, and the totals with it
 pub puts : (s t : Sheet) (h : Held) (n : ℕ) → length s.places.all ≡ 64 → n ≡ length (list_of s) → n < 64
     → t.places.all ≡ set s.places.all (n + 1 - 1) (record { content = Taken h })
-    → t.totals ≡ afterAdding s.totals t.places (n + 1) h
+    → t.totals ≡ after_adding s.totals t.places (n + 1) h
     → Gives s (adding none (list_of s) h) t (placing (placed.At (n + 1)))
 unfolding adding list_of
 puts s t h n size f l w r =
@@ -144,5 +144,5 @@ puts s t h n size f l w r =
       list = list;
       answer = ap (λ (m : ℕ). placing (placed.At (m + 1))) f;
       same = λ n z. absurd (none-ne-some n z);
-      totals = λ right. r ∙ right-added s.totals t.places (stands_for s.places) right (n + 1) h list (ap (λ (m : ℕ). m + 1) f);
+      totals = λ right. r ∙ right_added s.totals t.places (stands_for s.places) right (n + 1) h list (ap (λ (m : ℕ). m + 1) f);
     }

@@ -4,23 +4,23 @@ use Rattle.std.proofs.Math.Option.{Option, some}
 use Rattle.std.proofs.Math.Decide.{dec_le}
 use Rattle.exact.specs.Fraction.{whole, ◌⊗◌, power}
 use Rattle.guidance.specs.declared.Case.{Case}
-use Rattle.guidance.specs.Substances.{betas, betaOf, class_of, heat_of}
-use Rattle.guidance.specs.Ranges.{ranges, rangeAt}
-use Rattle.guidance.specs.Clouds.{range_of, groundFactor, leanBy, leanFactor, aerosolFactor, energy}
+use Rattle.guidance.specs.Substances.{betas, beta_of, class_of, heat_of}
+use Rattle.guidance.specs.Ranges.{ranges, range_at}
+use Rattle.guidance.specs.Clouds.{range_of, ground_factor, lean_by, lean_factor, aerosol_factor, energy}
 use Rattle.guidance.specs.Distances.{less, metres, cubed, farther, cube24}
 use Rattle.refusals.specs.Order.{first_of, held}
-use Rattle.fields.specs.Bytes.{airIn, fields_of}
-use Rattle.limits.specs.Tests.{quantityOutside, heatMissing, valueTests, fieldTests}
-use Rattle.frame.specs.Tests.{frameTests}
+use Rattle.fields.specs.Bytes.{air_in, fields_of}
+use Rattle.limits.specs.Tests.{quantity_outside, heat_missing, value_tests, field_tests}
+use Rattle.frame.specs.Tests.{frame_tests}
 use Rattle.places.specs.declared.Held.{Held}
 use Rattle.places.specs.Holes.{ahead, trim, at, added, withdrawn, closed}
-use Rattle.totals.specs.Totals.{count, greatest, firstWith, totalsOf}
+use Rattle.totals.specs.Totals.{count, greatest, first_with, totals_of}
 use Rattle.sheet.specs.declared.Refusal.TheVariants.{Beyond}
 use Rattle.sheet.specs.declared.Vacancy.TheVariants.{Vacant}
 use Rattle.sheet.specs.declared.Placing.TheVariants as placed
 use Rattle.sheet.specs.declared.Found.TheVariants as there
-use Rattle.sheet.specs.Tests.{ownTests, addTests}
-use Rattle.sheet.specs.Operations.{Operation, addFrame, withdraw, close, case_at, placing, finding, counting, adding, found, held_of, act}
+use Rattle.sheet.specs.Tests.{own_tests, add_tests}
+use Rattle.sheet.specs.Operations.{Operation, add_frame, withdraw, close, case_at, placing, finding, counting, adding, found, held_of, act}
 use Rattle.sheet.specs.Runs.{after, answered}
 
 -- the propane example of 004, at a distance in cm
@@ -35,8 +35,8 @@ case d = fields_of (frame d)
 -- a gap is not filled, a place past the last is none, and a case beyond is not added; the ends are those that the library finds
 abbrev pub yard : List Operation
 yard =
-    addFrame (frame 10000) 29033 ∷ addFrame (frame 15000) 21723 ∷ addFrame (frame 30000) 12046 ∷ withdraw 2 ∷ addFrame (frame 22000) 15839 ∷ case_at 2
-    ∷ withdraw 4 ∷ addFrame (frame 25000) 14170 ∷ close ∷ case_at 2 ∷ addFrame (frame 1000000) 0 ∷ []
+    add_frame (frame 10000) 29033 ∷ add_frame (frame 15000) 21723 ∷ add_frame (frame 30000) 12046 ∷ withdraw 2 ∷ add_frame (frame 22000) 15839 ∷ case_at 2
+    ∷ withdraw 4 ∷ add_frame (frame 25000) 14170 ∷ close ∷ case_at 2 ∷ add_frame (frame 1000000) 0 ∷ []
 
 -- what is on it then
 abbrev pub left : List (Option Held)
@@ -51,16 +51,16 @@ pub record Examples : Type 0 where
   pub places : after [] yard ≡ left
 
 pub examples : Examples
-unfolding answered after act adding found at trim ahead added withdrawn closed addTests ownTests first_of held frameTests fieldTests valueTests quantityOutside heatMissing airIn fields_of farther less cubed metres cube24 power whole ◌⊗◌ energy groundFactor leanFactor leanBy dec_le aerosolFactor heat_of betas betaOf range_of rangeAt ranges class_of
+unfolding answered after act adding found at trim ahead added withdrawn closed add_tests own_tests first_of held frame_tests field_tests value_tests quantity_outside heat_missing air_in fields_of farther less cubed metres cube24 power whole ◌⊗◌ energy ground_factor lean_factor lean_by dec_le aerosol_factor heat_of betas beta_of range_of range_at ranges class_of
 examples = record { answers = refl; places = refl }
 
 -- the totals, as the pump house is withdrawn, the gap closed, and the other two withdrawn
 pub record Shown : Type 0 where
-  pub three : totalsOf left ≡ record { cases = 3; greatest = 29033; place = 1 }
-  pub lowered : totalsOf (after left (withdraw 1 ∷ [])) ≡ record { cases = 2; greatest = 14170; place = 3 }
-  pub moved : totalsOf (after left (withdraw 1 ∷ close ∷ [])) ≡ record { cases = 2; greatest = 14170; place = 2 }
-  pub emptied : totalsOf (after left (withdraw 1 ∷ close ∷ withdraw 2 ∷ withdraw 1 ∷ [])) ≡ record { cases = 0; greatest = 0; place = 0 }
+  pub three : totals_of left ≡ record { cases = 3; greatest = 29033; place = 1 }
+  pub lowered : totals_of (after left (withdraw 1 ∷ [])) ≡ record { cases = 2; greatest = 14170; place = 3 }
+  pub moved : totals_of (after left (withdraw 1 ∷ close ∷ [])) ≡ record { cases = 2; greatest = 14170; place = 2 }
+  pub emptied : totals_of (after left (withdraw 1 ∷ close ∷ withdraw 2 ∷ withdraw 1 ∷ [])) ≡ record { cases = 0; greatest = 0; place = 0 }
 
 pub shown : Shown
-unfolding totalsOf count greatest firstWith after act at trim ahead withdrawn closed
+unfolding totals_of count greatest first_with after act at trim ahead withdrawn closed
 shown = record { three = refl; lowered = refl; moved = refl; emptied = refl }

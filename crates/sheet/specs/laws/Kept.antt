@@ -10,14 +10,14 @@ use Rattle.sheet.specs.Operations.{Operation, Told, adding, without, Does}
 use Rattle.sheet.specs.Runs.{Run, ends, goes}
 
 module _ (Q : List (Option Held) → Type 0) where
-  pub kept-adding : (o : Option Refusal) (xs : List (Option Held)) (c : Held) → (o ≡ none → Q (added xs c)) → Q xs → Q (adding o xs c).list
+  pub kept_adding : (o : Option Refusal) (xs : List (Option Held)) (c : Held) → (o ≡ none → Q (added xs c)) → Q xs → Q (adding o xs c).list
   unfolding adding
-  kept-adding none xs c more h = more refl
-  kept-adding (some r) xs c more h = h
+  kept_adding none xs c more h = more refl
+  kept_adding (some r) xs c more h = h
 
-  pub kept-without : (x : Option Held) (xs : List (Option Held)) (k : ℕ) → Q (withdrawn xs k) → Q xs → Q (without x xs k)
-  kept-without none xs k less h = h
-  kept-without (some c) xs k less h = less
+  pub kept_without : (x : Option Held) (xs : List (Option Held)) (k : ℕ) → Q (withdrawn xs k) → Q xs → Q (without x xs k)
+  kept_without none xs k less h = h
+  kept_without (some c) xs k less h = less
 
 -- what each operation keeps of a sheet, a sequence keeps
 pub kept_run : {s t : Sheet} {operations : List Operation} {answers : List Told} (Q : Sheet → Type 0)

@@ -5,24 +5,24 @@ use Rattle.std.proofs.Math.Option.{none, some, none-ne-some}
 use Rattle.places.specs.declared.Held.{Held}
 use Rattle.places.specs.Holes.{at, withdrawn, closed}
 use Rattle.places.specs.Places.{stands_for}
-use Rattle.totals.specs.Totals.{totalsOf}
-use Rattle.totals.specs.Keeping.{afterWithdrawing}
-use Rattle.totals.specs.laws.Changes.{right-withdrawn}
+use Rattle.totals.specs.Totals.{totals_of}
+use Rattle.totals.specs.Keeping.{after_withdrawing}
+use Rattle.totals.specs.laws.Changes.{right_withdrawn}
 use Rattle.sheet.specs.declared.Sheet.{Sheet}
 use Rattle.sheet.specs.declared.Vacancy.TheVariants.{Vacant}
 use Rattle.sheet.specs.declared.Found.{Found}
 use Rattle.sheet.specs.declared.Found.TheVariants as there
 use Rattle.sheet.specs.Operations.{withdraw, close, case_at, finding, counting, found, act, list_of, Does}
 
-pub withdraw-none : (s : Sheet) (k : ℕ) → none ≡ at (stands_for s.places) k → Does s (withdraw k) s (finding (there.Refused Vacant))
+pub withdraw_none : (s : Sheet) (k : ℕ) → none ≡ at (stands_for s.places) k → Does s (withdraw k) s (finding (there.Refused Vacant))
 unfolding act found list_of
-withdraw-none s k e = record { gives = rw (sym e) (record { list = refl; answer = refl; same = λ n z. refl; totals = λ r. r }); ends = λ z. tt }
+withdraw_none s k e = record { gives = rw (sym e) (record { list = refl; answer = refl; same = λ n z. refl; totals = λ r. r }); ends = λ z. tt }
 
-pub withdraw-case : (s t : Sheet) (k : ℕ) (h : Held) → some h ≡ at (stands_for s.places) k
-    → (list_of t ≡ withdrawn (list_of s) k) × (t.totals ≡ afterWithdrawing s.totals t.places k)
+pub withdraw_case : (s t : Sheet) (k : ℕ) (h : Held) → some h ≡ at (stands_for s.places) k
+    → (list_of t ≡ withdrawn (list_of s) k) × (t.totals ≡ after_withdrawing s.totals t.places k)
     → Does s (withdraw k) t (finding (there.Held h.case))
 unfolding act found list_of
-withdraw-case s t k h e done =
+withdraw_case s t k h e done =
     record {
       gives =
           rw (sym e)
@@ -30,13 +30,13 @@ withdraw-case s t k h e done =
             list = done.0;
             answer = refl;
             same = λ n z. absurd (none-ne-some n z);
-            totals = λ right. done.1 ∙ right-withdrawn s.totals t.places (stands_for s.places) right k h (sym e) done.0;
+            totals = λ right. done.1 ∙ right_withdrawn s.totals t.places (stands_for s.places) right k h (sym e) done.0;
           });
       ends = λ z. tt;
     }
 
 pub closes : (s t : Sheet) (n : ℕ) → stands_for t.places ≡ closed (stands_for s.places) → n ≡ length (stands_for t.places)
-    → t.totals ≡ totalsOf (stands_for t.places)
+    → t.totals ≡ totals_of (stands_for t.places)
     → Does s close t (counting n)
 unfolding act list_of
 closes s t n e f r =

@@ -1,15 +1,15 @@
 -- `sheet_bytes::air_word` meets its contract. Assumes nothing.
 use borrow.Author.Tests.{eq-eqb, ne_eqb}
-use Rattle.sheet_bytes.specs.Packing.{airWord}
+use Rattle.sheet_bytes.specs.Packing.{air_word}
 use Rattle.sheet_bytes.proofs.air_word.Statement.{statement}
 use Rattle.sheet_bytes.proofs.air_word.Tie as tie
 
 returns : tie.Need-returns
-unfolding airWord
+unfolding air_word
 returns c = simp (eq-eqb _ _ c.if1.true)
 
 returns-2 : tie.Need-returns-2
-unfolding airWord
+unfolding air_word
 returns-2 c = simp (ne_eqb _ _ c.if1.false)
 
 pub air-word-spec : {M : Type 1} → statement M

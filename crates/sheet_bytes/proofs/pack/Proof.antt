@@ -4,7 +4,7 @@ use native.Mathlib.Omega.{arith}
 use lib.ListN.{length-take, length-drop}
 use borrow.Author.Rules.{rules}
 use Rattle.places.specs.laws.Contents.{unmapped}
-use Rattle.sheet_bytes.proofs.Turns.{Packing, pack-first, pack-again, pack-last}
+use Rattle.sheet_bytes.proofs.Turns.{Packing, pack_first, pack_again, pack_last}
 use Rattle.sheet_bytes.proofs.pack.Statement.{statement}
 use Rattle.sheet_bytes.proofs.pack.Tie as tie
 
@@ -15,7 +15,7 @@ abbrev decreases-loop : tie.decreases-loop
 decreases-loop s₀ places i₀ s i = 64 - i
 
 loop-holds : tie.Need-loop-init invariant-loop decreases-loop
-loop-holds c = pack-first _ _ (search (rules, unmapped)) c.before.requires
+loop-holds c = pack_first _ _ (search (rules, unmapped)) c.before.requires
 
 mul-p : tie.Need-overflow-mul-p invariant-loop decreases-loop
 mul-p c = omega arith
@@ -51,13 +51,13 @@ loop-again : tie.Need-loop-preserved invariant-loop decreases-loop
 loop-again c =
     let turn = c.before.before.before.before.before.before in
     let i = turn.loop.i in
-    pack-again turn.loop.invariant c.before.before.before.before.before.loop-test.true _ (32 * i + 32 - 32 * i) _ (omega arith) c.before.before.put-place.ensures
+    pack_again turn.loop.invariant c.before.before.before.before.before.loop-test.true _ (32 * i + 32 - 32 * i) _ (omega arith) c.before.before.put-place.ensures
 
 same_length : tie.Need-same-length invariant-loop decreases-loop
 same_length c = c.before.loop.invariant.same
 
 returns : tie.Need-returns invariant-loop decreases-loop
-returns c = pack-last c.before.loop.invariant c.loop-test.false
+returns c = pack_last c.before.loop.invariant c.loop-test.false
 
 pub pack-spec : {M : Type 1} → statement M
 pack-spec =

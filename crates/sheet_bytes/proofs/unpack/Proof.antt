@@ -4,7 +4,7 @@ use native.Mathlib.Omega.{arith}
 use lib.ListN.{length-take, length-drop}
 use borrow.Author.Rules.{rules}
 use Rattle.places.specs.laws.Contents.{unmapped}
-use Rattle.sheet_bytes.proofs.Turns.{Unpacking, unpack-first, unpack-again, unpack-last}
+use Rattle.sheet_bytes.proofs.Turns.{Unpacking, unpack_first, unpack_again, unpack_last}
 use Rattle.sheet_bytes.proofs.unpack.Statement.{statement}
 use Rattle.sheet_bytes.proofs.unpack.Tie as tie
 
@@ -18,7 +18,7 @@ empty-requires : tie.Need-empty-requires invariant-loop decreases-loop
 empty-requires c κs = tt
 
 loop-holds : tie.Need-loop-init invariant-loop decreases-loop
-loop-holds c = unpack-first _ _ (search (rules, unmapped))
+loop-holds c = unpack_first _ _ (search (rules, unmapped))
 
 mul_at : tie.Need-overflow-mul-at invariant-loop decreases-loop
 mul_at c = omega arith
@@ -54,10 +54,10 @@ loop-again : tie.Need-loop-preserved invariant-loop decreases-loop
 loop-again c =
     let turn = c.before.before.before in
     let i = turn.loop.i in
-    unpack-again _ (32 * i + 32 - 32 * i) turn.loop.invariant c.before.before.loop-test.true (omega arith) c.place_of.ensures
+    unpack_again _ (32 * i + 32 - 32 * i) turn.loop.invariant c.before.before.loop-test.true (omega arith) c.place_of.ensures
 
 returns : tie.Need-returns invariant-loop decreases-loop
-returns c = unpack-last c.before.loop.invariant c.loop-test.false
+returns c = unpack_last c.before.loop.invariant c.loop-test.false
 
 pub unpack-spec : {M : Type 1} → statement M
 unpack-spec =

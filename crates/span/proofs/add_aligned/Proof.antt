@@ -1,7 +1,7 @@
 -- `span::add_aligned` meets its contract. Assumes nothing.
 use native.Mathlib.Omega.{arith}
 use borrow.Author.Rules.{rules}
-use Rattle.span.proofs.Operations.{sum-ordered, sum-cuttable, sum-rounded}
+use Rattle.span.proofs.Operations.{sum_ordered, sum_cuttable, sum_rounded}
 use Rattle.span.proofs.add_aligned.Statement.{statement}
 use Rattle.span.proofs.add_aligned.Tie as tie
 
@@ -28,14 +28,14 @@ cut-requires c κs =
     let up = c.before.before.shr-up.ensures in
     let down = c.before.before.before.shr-down.ensures in
     let g = c.before.before.before.before.before.before.requires in
-    sum-cuttable _ _ _ _ _ _ _ g down.small up.small (sum-ordered _ _ _ _ g down up) (omega arith) (omega arith) (omega arith)
+    sum_cuttable _ _ _ _ _ _ _ g down.small up.small (sum_ordered _ _ _ _ g down up) (omega arith) (omega arith) (omega arith)
 
 returns : tie.Need-returns
 returns c =
     let up = c.before.before.before.shr-up.ensures in
     let down = c.before.before.before.before.shr-down.ensures in
     let g = c.before.before.before.before.before.before.before.requires in
-    sum-rounded _ _ _ _ g down up _ _ _ (omega arith) (omega arith) c.cut.ensures
+    sum_rounded _ _ _ _ g down up _ _ _ (omega arith) (omega arith) c.cut.ensures
 
 pub add-aligned-spec : {M : Type 1} → statement M
 add-aligned-spec =

@@ -3,7 +3,7 @@ use Prim.Native.Nat.{ℕ, ◌*◌, ◌^◌, ◌≤◌}
 use native.Mathlib.Nat.{mul-le-mul}
 use native.Mathlib.Omega.{arith}
 use borrow.Author.Rules.{rules}
-use Rattle.span.proofs.Comparisons.{smaller-rounded}
+use Rattle.span.proofs.Comparisons.{smaller_rounded}
 use Rattle.span.proofs.lesser_aligned.Statement.{statement}
 use Rattle.span.proofs.lesser_aligned.Tie as tie
 
@@ -35,7 +35,7 @@ least-requires-2 c κs = search rules
 returns : tie.Need-returns
 returns c =
     let t = c.before.before.before.before in
-    smaller-rounded _ _ _ _ t.before.before.before.requires t.ratio.ensures c.before.least.ensures c.least2.ensures (search rules)
+    smaller_rounded _ _ _ _ t.before.before.before.requires t.ratio.ensures c.before.least.ensures c.least2.ensures (search rules)
 
 pub lesser-aligned-spec : {M : Type 1} → statement M
 lesser-aligned-spec =

@@ -1,7 +1,7 @@
 -- `span::quo` meets its contract. Assumes nothing.
 use native.Mathlib.Omega.{arith}
 use borrow.Author.Rules.{rules}
-use Rattle.span.proofs.Operations.{divided, quotient-roundable, quotient-rounded}
+use Rattle.span.proofs.Operations.{divided, quotient_roundable, quotient_rounded}
 use Rattle.span.proofs.quo.Statement.{statement}
 use Rattle.span.proofs.quo.Tie as tie
 
@@ -30,12 +30,12 @@ sub-e : tie.Need-overflow-sub-e
 sub-e c = search rules
 
 norm-requires : tie.Need-norm-requires
-norm-requires c κs = let d = c.before.before.before.before.before.before.before.requires in quotient-roundable _ _ _ _ d (divided _ _ _ _ _ _ d (omega arith) (omega arith) (omega arith) (omega arith))
+norm-requires c κs = let d = c.before.before.before.before.before.before.before.requires in quotient_roundable _ _ _ _ d (divided _ _ _ _ _ _ d (omega arith) (omega arith) (omega arith) (omega arith))
 
 returns : tie.Need-returns
 returns c =
     let d = c.before.before.before.before.before.before.before.before.requires in
-    quotient-rounded _ _ _ _ _ d (divided _ _ _ _ _ _ d (omega arith) (omega arith) (omega arith) (omega arith)) c.norm.ensures
+    quotient_rounded _ _ _ _ _ d (divided _ _ _ _ _ _ d (omega arith) (omega arith) (omega arith) (omega arith)) c.norm.ensures
 
 pub quo-spec : {M : Type 1} → statement M
 quo-spec =

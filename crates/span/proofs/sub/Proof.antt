@@ -1,12 +1,12 @@
 -- `span::sub` meets its contract. Assumes nothing.
 use native.Mathlib.Omega.{arith}
 use borrow.Author.Rules.{rules}
-use Rattle.span.proofs.Differences.{lower-exponent, upper-taken, lower-taken, difference-roundable, difference-rounded}
+use Rattle.span.proofs.Differences.{lower_exponent, upper_taken, lower_taken, difference_roundable, difference_rounded}
 use Rattle.span.proofs.sub.Statement.{statement}
 use Rattle.span.proofs.sub.Tie as tie
 
 sub-d : tie.Need-overflow-sub-d
-sub-d c = lower-exponent _ _ c.before.before.requires
+sub-d c = lower_exponent _ _ c.before.before.requires
 
 shr-down-requires : tie.Need-shr-down-requires
 shr-down-requires c κs = search rules
@@ -20,13 +20,13 @@ sub-l c =
     let g = s.before.before.before.before.requires in
     let down = s.before.shr-down.ensures in
     let up = s.shr-up.ensures in
-    omega (arith, upper-taken _ _ _ _ g down up, lower-taken _ _ _ _ g down up)
+    omega (arith, upper_taken _ _ _ _ g down up, lower_taken _ _ _ _ g down up)
 
 sub-h : tie.Need-overflow-sub-h
 sub-h c =
     let s = c.before.before in
     let g = s.before.before.before.before.requires in
-    omega (arith, g.left.ordered, lower-taken _ _ _ _ g s.before.shr-down.ensures s.shr-up.ensures)
+    omega (arith, g.left.ordered, lower_taken _ _ _ _ g s.before.shr-down.ensures s.shr-up.ensures)
 
 norm-requires : tie.Need-norm-requires
 norm-requires c κs =
@@ -34,8 +34,8 @@ norm-requires c κs =
     let g = s.before.before.before.before.requires in
     let down = s.before.shr-down.ensures in
     let up = s.shr-up.ensures in
-    difference-roundable _ _ _ _ g down up _ _
-    (omega (arith, upper-taken _ _ _ _ g down up)) (omega (arith, g.left.ordered, lower-taken _ _ _ _ g down up))
+    difference_roundable _ _ _ _ g down up _ _
+    (omega (arith, upper_taken _ _ _ _ g down up)) (omega (arith, g.left.ordered, lower_taken _ _ _ _ g down up))
 
 returns : tie.Need-returns
 returns c =
@@ -43,8 +43,8 @@ returns c =
     let g = s.before.before.before.before.requires in
     let down = s.before.shr-down.ensures in
     let up = s.shr-up.ensures in
-    difference-rounded _ _ _ _ g down up _ _ _
-    (omega (arith, upper-taken _ _ _ _ g down up)) (omega (arith, g.left.ordered, lower-taken _ _ _ _ g down up)) c.norm.ensures
+    difference_rounded _ _ _ _ g down up _ _ _
+    (omega (arith, upper_taken _ _ _ _ g down up)) (omega (arith, g.left.ordered, lower_taken _ _ _ _ g down up)) c.norm.ensures
 
 pub sub_spec : {M : Type 1} → statement M
 sub_spec =

@@ -4,7 +4,7 @@ use native.Mathlib.Omega.{arith}
 use lib.ListN.{length}
 use borrow.Author.Rules.{rules}
 use Rattle.text.specs.Promises.{Taken}
-use Rattle.text.proofs.Feeding.{taken_none, ready-again, turn, goes_on}
+use Rattle.text.proofs.Feeding.{taken_none, ready_again, turn, goes_on}
 use Rattle.text.proofs.feed.Statement.{statement}
 use Rattle.text.proofs.feed.Tie as tie
 
@@ -50,7 +50,7 @@ part-step-end-2 c = search rules
 step-requires : tie.Need-step-requires invariant-loop decreases-loop
 step-requires c κs =
     let loop = c.before.before.before.before in
-    ready-again loop.loop.invariant loop.before.before.before.requires c.before.before.if1.false
+    ready_again loop.loop.invariant loop.before.before.before.requires c.before.before.if1.false
 
 add-used : tie.Need-overflow-add-used invariant-loop decreases-loop
 add-used c =

@@ -1,7 +1,7 @@
 -- `text::put_line` meets its contract: a whole line is read where it lies, another where it is held. Assumes nothing.
 use native.Mathlib.Omega.{arith}
 use borrow.Author.Rules.{rules}
-use Rattle.text.proofs.Endings.{ends-direct, ends-later}
+use Rattle.text.proofs.Endings.{ends_direct, ends_later}
 use Rattle.text.proofs.put_line.Statement.{statement}
 use Rattle.text.proofs.put_line.Tie as tie
 
@@ -15,7 +15,7 @@ same_length : tie.Need-same-length
 same_length c = search rules
 
 returns : tie.Need-returns
-returns c = ends-direct c.before.before.before.before.before.if1.true c.before.before.put_record.ensures
+returns c = ends_direct c.before.before.before.before.before.if1.true c.before.before.put_record.ensures
 
 hold-requires : tie.Need-hold-requires
 hold-requires c κs = search rules
@@ -27,7 +27,7 @@ same-length-2 : tie.Need-same-length-2
 same-length-2 c = search rules
 
 returns-2 : tie.Need-returns-2
-returns-2 c = ends-later c.before.before.before.before.hold.ensures c.before.before.put-held.ensures
+returns-2 c = ends_later c.before.before.before.before.hold.ensures c.before.before.put-held.ensures
 
 pub put-line-spec : {M : Type 1} → statement M
 put-line-spec =

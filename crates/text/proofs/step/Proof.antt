@@ -4,7 +4,7 @@ use mathlib.Core.Path.{sym}
 use native.Mathlib.Nat.{le_of_lt}
 use lib.Seq.{length-take-le}
 use borrow.Author.Rules.{rules}
-use Rattle.text.proofs.LineTaken.{inside, taken-rest, taken-line}
+use Rattle.text.proofs.LineTaken.{inside, taken_rest, taken_line}
 use Rattle.text.proofs.step.Statement.{statement}
 use Rattle.text.proofs.step.Tie as tie
 
@@ -18,7 +18,7 @@ returns : tie.Need-returns
 returns c =
     record {
       taken =
-          taken-rest
+          taken_rest
           c.before.before.before.before.before.args.out.now
           c.before.before.line-end.ensures
           c.before.if1.true
@@ -61,7 +61,7 @@ returns-2 c =
     let end = ends.before.line-end.ensures in
     let within = inside start.args.part.now end ends.if1.false in
     record {
-      taken = taken-line start.requires.sound end within start.requires.room put.auto.1.1.0 put.ensures;
+      taken = taken_line start.requires.sound end within start.requires.room put.auto.1.1.0 put.ensures;
       goes = λ h. omega arith;
     }
 

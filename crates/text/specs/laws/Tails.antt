@@ -12,9 +12,9 @@ none_after : (at : ℕ) (l : List ℕ) → post_of at (length l - at) l ≡ []
 none_after at l = rw (← length-drop at l) (drop-length (drop at l))
 
 -- the whole, once the part is back
-pub put-to-end : (at : ℕ) (l part : List ℕ) → put_mid at (length l - at) l part ≡ take at l ++ part
-put-to-end at l part = rw (none_after at l, append-nil part)
+pub put_to_end : (at : ℕ) (l part : List ℕ) → put_mid at (length l - at) l part ≡ take at l ++ part
+put_to_end at l part = rw (none_after at l, append-nil part)
 
 -- the room that a part has
-pub room-from : (at : ℕ) (l : List ℕ) (n : ℕ) → n + at ≤ length l → n ≤ length (mid_of at (length l - at) l)
-room-from at l n h = rw (part_to_end at l) (omega (arith, length-drop at l))
+pub room_from : (at : ℕ) (l : List ℕ) (n : ℕ) → n + at ≤ length l → n ≤ length (mid_of at (length l - at) l)
+room_from at l n h = rw (part_to_end at l) (omega (arith, length-drop at l))

@@ -8,20 +8,20 @@ pub length_over : (text area : List ℕ) → length text ≤ length area → len
 length_over text area h = simp (length-append, length-drop) (omega arith)
 
 -- one byte more at the end of the text
-over-byte : (text area : List ℕ) (a : ℕ) → length text < length area → set (over text area) (length text) a ≡ over (text ++ (a ∷ [])) area
-over-byte text area a h =
+over_byte : (text area : List ℕ) (a : ℕ) → length text < length area → set (over text area) (length text) a ≡ over (text ++ (a ∷ [])) area
+over_byte text area a h =
     rw (drop-cons area (length text) 0 h, set-append_seam text (get_or area (length text) 0) (drop (suc (length text)) area) a)
     (sym (append_snoc text a (drop (suc (length text)) area))
     ∙ ap (λ (k : ℕ). text ++ (a ∷ []) ++ drop k area) (sym (length-append text (a ∷ []) ∙ add-one (length text))))
 
-pub over-store
+pub over_store
     : (text area out : List ℕ) (n a : ℕ) → out ≡ over text area → n ≡ length text → n < length area → set out n a ≡ over (text ++ (a ∷ [])) area
-over-store text area out n a e m h = rw (e, m) (over-byte text area a (rw m at h))
+over_store text area out n a e m h = rw (e, m) (over_byte text area a (rw m at h))
 
 -- a text written behind the text
-pub over-part
+pub over_part
     : (text more area : List ℕ) → take (length text) (over text area) ++ over more (drop (length text) (over text area)) ≡ over (text ++ more) area
-over-part text more area =
+over_part text more area =
     rw (take-append_seam, drop-append_seam)
     (sym (append_assoc text more (drop (length more) (drop (length text) area)))
     ∙ ap (λ (r : List ℕ). text ++ more ++ r)

@@ -6,7 +6,7 @@ use Rattle.guidance.specs.declared.Case.{Case}
 use Rattle.guidance.specs.Cases.{Fields}
 use Rattle.limits.specs.declared.Checked.{Checked}
 use Rattle.to_old.specs.Steps.{judged}
-use Rattle.to_old.specs.laws.Verdicts.{frame-judged, frame-accepted}
+use Rattle.to_old.specs.laws.Verdicts.{frame_judged, frame_accepted}
 use Rattle.to_old.proofs.to_line.Statement.{statement}
 use Rattle.to_old.proofs.to_line.Tie as tie
 
@@ -16,7 +16,7 @@ give-back-requires c κs d e =
     let a = j.before.before.before.before.args in
     let frame = a.frame.now in
     let room = length a.area.now in
-    let t = frame-accepted frame room d (sym (j.judge.ensures ∙ ap (λ (s : Checked). judged s room) j.before.check-frame.ensures ∙ frame-judged frame room) ∙ e) in
+    let t = frame_accepted frame room d (sym (j.judge.ensures ∙ ap (λ (s : Checked). judged s room) j.before.check-frame.ensures ∙ frame_judged frame room) ∙ e) in
     (t.room_for, subst (λ (k : Case). Fields k) (sym t.same) t.heated.fields)
 
 returns : tie.Need-returns
@@ -27,7 +27,7 @@ returns c =
     let frame = s.args.frame.now in
     let room = length s.args.area.now in
     record {
-      verdict = g.give-back.ensures.verdict ∙ j.judge.ensures ∙ ap (λ (q : Checked). judged q room) j.before.check-frame.ensures ∙ frame-judged frame room;
+      verdict = g.give-back.ensures.verdict ∙ j.judge.ensures ∙ ap (λ (q : Checked). judged q room) j.before.check-frame.ensures ∙ frame_judged frame room;
       area = g.give-back.ensures.area;
     }
 

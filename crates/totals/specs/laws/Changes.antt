@@ -11,47 +11,47 @@ use Rattle.places.specs.declared.Places.{Places}
 use Rattle.places.specs.Holes.{at, added, withdrawn}
 use Rattle.places.specs.Places.{stands_for}
 use Rattle.totals.specs.declared.Totals.{Totals}
-use Rattle.totals.specs.Totals.{count, greatest, firstWith, totalsOf}
-use Rattle.totals.specs.Keeping.{including, excluding, afterAdding, afterWithdrawing}
-use Rattle.totals.specs.laws.Counts.{count-case, count_set, greatest-case, greatest-none, greatest-set}
-use Rattle.totals.specs.laws.Trims.{totals-trim}
-use Rattle.totals.specs.laws.Firsts.{first-bound, first-nowhere, first-none, first_above, first_found, first_next, first-set}
+use Rattle.totals.specs.Totals.{count, greatest, first_with, totals_of}
+use Rattle.totals.specs.Keeping.{including, excluding, after_adding, after_withdrawing}
+use Rattle.totals.specs.laws.Counts.{count_case, count_set, greatest_case, greatest_none, greatest_set}
+use Rattle.totals.specs.laws.Trims.{totals_trim}
+use Rattle.totals.specs.laws.Firsts.{first_bound, first_nowhere, first_none, first_above, first_found, first_next, first_set}
 
 module _ (xs : List (Option Held)) (h : Held) where
   -- the new case is the greatest, and the first of its end
   overtakes
-      : firstWith h.upper 0 xs ≡ 0 →
+      : first_with h.upper 0 xs ≡ 0 →
       greatest xs ≤ h.upper →
-      totalsOf (xs ++ (some h ∷ [])) ≡ record { cases = count xs + 1; greatest = h.upper; place = length xs + 1 }
-  unfolding totalsOf
+      totals_of (xs ++ (some h ∷ [])) ≡ record { cases = count xs + 1; greatest = h.upper; place = length xs + 1 }
+  unfolding totals_of
   overtakes none_yet l =
-      let most : greatest (xs ++ (some h ∷ [])) ≡ h.upper = omega (arith, greatest-case xs h) in
-      rw (count-case xs h, most, first_next 0 xs h none_yet)
+      let most : greatest (xs ++ (some h ∷ [])) ≡ h.upper = omega (arith, greatest_case xs h) in
+      rw (count_case xs h, most, first_next 0 xs h none_yet)
       (ap₂ (λ (n k : ℕ). record { cases = n; greatest = h.upper; place = k }) (omega arith) (omega arith))
 
   -- an earlier one stays the first of the greatest
   stays
       : 0 < count xs →
       h.upper ≤ greatest xs →
-      totalsOf (xs ++ (some h ∷ [])) ≡ record { cases = count xs + 1; greatest = greatest xs; place = firstWith (greatest xs) 0 xs }
-  unfolding totalsOf
+      totals_of (xs ++ (some h ∷ [])) ≡ record { cases = count xs + 1; greatest = greatest xs; place = first_with (greatest xs) 0 xs }
+  unfolding totals_of
   stays some_left l =
-      let same : greatest (xs ++ (some h ∷ [])) ≡ greatest xs = omega (arith, greatest-case xs h) in
-      rw (count-case xs h, same, kept (firstWith (greatest xs) 0 xs) refl)
-      (ap (λ (n : ℕ). record { cases = n; greatest = greatest xs; place = firstWith (greatest xs) 0 xs }) (omega arith))
+      let same : greatest (xs ++ (some h ∷ [])) ≡ greatest xs = omega (arith, greatest_case xs h) in
+      rw (count_case xs h, same, kept (first_with (greatest xs) 0 xs) refl)
+      (ap (λ (n : ℕ). record { cases = n; greatest = greatest xs; place = first_with (greatest xs) 0 xs }) (omega arith))
     where
-      kept : (s : ℕ) → firstWith (greatest xs) 0 xs ≡ s → firstWith (greatest xs) 0 (xs ++ (some h ∷ [])) ≡ firstWith (greatest xs) 0 xs
-      kept zero e = absurd (first-nowhere (greatest xs) 0 xs e some_left refl)
+      kept : (s : ℕ) → first_with (greatest xs) 0 xs ≡ s → first_with (greatest xs) 0 (xs ++ (some h ∷ [])) ≡ first_with (greatest xs) 0 xs
+      kept zero e = absurd (first_nowhere (greatest xs) 0 xs e some_left refl)
       kept (suc j) e = first_found (greatest xs) 0 xs h j e ∙ sym e
 
   -- a case more at the end
-  pub totals-added : totalsOf (added xs h) ≡ including (totalsOf xs) (length xs + 1) h.upper
-  unfolding including totalsOf added
-  totals-added =
+  pub totals_added : totals_of (added xs h) ≡ including (totals_of xs) (length xs + 1) h.upper
+  unfolding including totals_of added
+  totals_added =
       settle (eqb (count xs) 0)
       (λ e.
       let empty : count xs ≡ 0 = eqb-true (count xs) 0 e in
-      rw e (overtakes (first-none h.upper 0 xs empty) (omega (arith, greatest-none xs empty))))
+      rw e (overtakes (first_none h.upper 0 xs empty) (omega (arith, greatest_none xs empty))))
       (λ e.
       let more : count xs ≡ 0 → ⊥ = eqb-false (count xs) 0 e in
       settle (ltb (greatest xs) h.upper)
@@ -61,65 +61,65 @@ module _ (xs : List (Option Held)) (h : Held) where
       (λ t. rw (e, t) (stays (omega (arith, more)) (ltb-false (greatest xs) h.upper t))))
 
 -- a hole in the place of a case that is not the one shown
-totals-set
+totals_set
     : (xs : List (Option Held)) (i : ℕ) (h : Held) →
     get_or xs i none ≡ some h →
-    ((totalsOf xs).place ≡ suc i → ⊥) →
-    totalsOf (set xs i none) ≡ excluding (totalsOf xs)
-unfolding totalsOf
-totals-set xs i h e other =
+    ((totals_of xs).place ≡ suc i → ⊥) →
+    totals_of (set xs i none) ≡ excluding (totals_of xs)
+unfolding totals_of
+totals_set xs i h e other =
     rw (most, same)
-    (ap (λ (n : ℕ). record { cases = n; greatest = greatest xs; place = firstWith (greatest xs) 0 xs }) (omega (arith, count_set xs i h e)))
+    (ap (λ (n : ℕ). record { cases = n; greatest = greatest xs; place = first_with (greatest xs) 0 xs }) (omega (arith, count_set xs i h e)))
   where
-    same : firstWith (greatest xs) 0 (set xs i none) ≡ firstWith (greatest xs) 0 xs
-    same = first-set (greatest xs) 0 xs i (λ e. other (e ∙ ap suc (omega arith)))
+    same : first_with (greatest xs) 0 (set xs i none) ≡ first_with (greatest xs) 0 xs
+    same = first_set (greatest xs) 0 xs i (λ e. other (e ∙ ap suc (omega arith)))
 
-    reached : (s : ℕ) → firstWith (greatest xs) 0 xs ≡ s → greatest xs ≤ greatest (set xs i none)
-    reached zero f = absurd (first-nowhere (greatest xs) 0 xs f (omega (arith, count_set xs i h e)) refl)
-    reached (suc j) f = first-bound (greatest xs) 0 (set xs i none) j (same ∙ f)
+    reached : (s : ℕ) → first_with (greatest xs) 0 xs ≡ s → greatest xs ≤ greatest (set xs i none)
+    reached zero f = absurd (first_nowhere (greatest xs) 0 xs f (omega (arith, count_set xs i h e)) refl)
+    reached (suc j) f = first_bound (greatest xs) 0 (set xs i none) j (same ∙ f)
 
     most : greatest (set xs i none) ≡ greatest xs
-    most = omega (arith, greatest-set xs i, reached (firstWith (greatest xs) 0 xs) refl)
+    most = omega (arith, greatest_set xs i, reached (first_with (greatest xs) 0 xs) refl)
 
 -- a case withdrawn that is not the one shown
-totals-withdrawn
+totals_withdrawn
     : (xs : List (Option Held)) (k : ℕ) (h : Held) →
     at xs k ≡ some h →
-    ((totalsOf xs).place ≡ k → ⊥) →
-    totalsOf (withdrawn xs k) ≡ excluding (totalsOf xs)
+    ((totals_of xs).place ≡ k → ⊥) →
+    totals_of (withdrawn xs k) ≡ excluding (totals_of xs)
 unfolding at withdrawn
-totals-withdrawn xs zero h e other = absurd (none-ne-some h e)
-totals-withdrawn xs (suc i) h e other = totals-trim (set xs i none) ∙ totals-set xs i h e other
+totals_withdrawn xs zero h e other = absurd (none-ne-some h e)
+totals_withdrawn xs (suc i) h e other = totals_trim (set xs i none) ∙ totals_set xs i h e other
 
 -- a case went: the one shown, another
 
 module _ (t : Totals) (now : Places) (k : ℕ) where
-  pub shown-went : t.place ≡ k → totalsOf (stands_for now) ≡ afterWithdrawing t now k
-  unfolding afterWithdrawing
-  shown-went e = rw (eq-eqb t.place k e)
+  pub shown_went : t.place ≡ k → totals_of (stands_for now) ≡ after_withdrawing t now k
+  unfolding after_withdrawing
+  shown_went e = rw (eq-eqb t.place k e)
 
-  pub other-went : (t.place ≡ k → ⊥) → excluding t ≡ afterWithdrawing t now k
-  unfolding afterWithdrawing
-  other-went other = rw (ne_eqb t.place k other)
+  pub other_went : (t.place ≡ k → ⊥) → excluding t ≡ after_withdrawing t now k
+  unfolding after_withdrawing
+  other_went other = rw (ne_eqb t.place k other)
 
-  pub none-there : (t.place ≡ k → ⊥) → t.cases ≡ 0 → t ≡ afterWithdrawing t now k
-  none-there other e =
-      let none-less : t.cases ≡ t.cases - 1 = omega arith in
-      ap (λ (n : ℕ). record { cases = n; greatest = t.greatest; place = t.place }) none-less ∙ other-went other
+  pub none_there : (t.place ≡ k → ⊥) → t.cases ≡ 0 → t ≡ after_withdrawing t now k
+  none_there other e =
+      let none_less : t.cases ≡ t.cases - 1 = omega arith in
+      ap (λ (n : ℕ). record { cases = n; greatest = t.greatest; place = t.place }) none_less ∙ other_went other
 
 -- right totals stay right
 
-module _ (t : Totals) (now : Places) (xs : List (Option Held)) (right : t ≡ totalsOf xs) where
-  pub right-added : (k : ℕ) (h : Held) → stands_for now ≡ added xs h → k ≡ length xs + 1 → afterAdding t now k h ≡ totalsOf (stands_for now)
-  unfolding afterAdding
-  right-added k h list last =
-      settle (ltb t.cases 64) (λ e. rw e (rw (right, last, list) (sym (totals-added xs h)))) (λ e. rw e)
+module _ (t : Totals) (now : Places) (xs : List (Option Held)) (right : t ≡ totals_of xs) where
+  pub right_added : (k : ℕ) (h : Held) → stands_for now ≡ added xs h → k ≡ length xs + 1 → after_adding t now k h ≡ totals_of (stands_for now)
+  unfolding after_adding
+  right_added k h list last =
+      settle (ltb t.cases 64) (λ e. rw e (rw (right, last, list) (sym (totals_added xs h)))) (λ e. rw e)
 
-  pub right-withdrawn : (k : ℕ) (h : Held) → at xs k ≡ some h → stands_for now ≡ withdrawn xs k → afterWithdrawing t now k ≡ totalsOf (stands_for now)
-  right-withdrawn k h there list =
+  pub right_withdrawn : (k : ℕ) (h : Held) → at xs k ≡ some h → stands_for now ≡ withdrawn xs k → after_withdrawing t now k ≡ totals_of (stands_for now)
+  right_withdrawn k h there list =
       settle (eqb t.place k)
-      (λ e. sym (shown-went t now k (eqb-true t.place k e)))
+      (λ e. sym (shown_went t now k (eqb-true t.place k e)))
       (λ e.
       let other : t.place ≡ k → ⊥ = eqb-false t.place k e in
-      sym (other-went t now k other)
-      ∙ rw (right, list) (sym (totals-withdrawn xs k h there (λ i. other (ap (λ (u : Totals). u.place) right ∙ i)))))
+      sym (other_went t now k other)
+      ∙ rw (right, list) (sym (totals_withdrawn xs k h there (λ i. other (ap (λ (u : Totals). u.place) right ∙ i)))))

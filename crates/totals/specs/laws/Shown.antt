@@ -7,30 +7,30 @@ use Rattle.std.proofs.lemmas.Bool.{eqb-false}
 use Rattle.exact.specs.laws.Tests.{settle}
 use Rattle.places.specs.declared.Held.{Held}
 use Rattle.places.specs.Holes.{at, Each}
-use Rattle.places.specs.laws.Kept.{each-weaker}
-use Rattle.totals.specs.Totals.{count, greatest, firstWith, totalsOf}
-use Rattle.totals.specs.laws.Firsts.{first-nowhere, first-none}
+use Rattle.places.specs.laws.Kept.{each_weaker}
+use Rattle.totals.specs.Totals.{count, greatest, first_with, totals_of}
+use Rattle.totals.specs.laws.Firsts.{first_nowhere, first_none}
 
 pub none_above : (xs : List (Option Held)) → Each (λ (h : Held). h.upper ≤ greatest xs) xs
 unfolding greatest Each
 none_above [] = tt
 none_above (none ∷ xs) = none_above xs
-none_above (some h ∷ xs) = (omega arith, each-weaker (λ g l. omega (arith, l)) xs (none_above xs))
+none_above (some h ∷ xs) = (omega arith, each_weaker (λ g l. omega (arith, l)) xs (none_above xs))
 
-pub no_place : (xs : List (Option Held)) → (totalsOf xs).place ≡ 0 → count xs ≡ 0
-unfolding totalsOf
+pub no_place : (xs : List (Option Held)) → (totals_of xs).place ≡ 0 → count xs ≡ 0
+unfolding totals_of
 no_place xs e =
     settle (eqb (count xs) 0)
     (λ t. eqb-true (count xs) 0 t)
-    (λ t. let some_left : count xs ≡ 0 → ⊥ = eqb-false (count xs) 0 t in absurd (first-nowhere (greatest xs) 0 xs e (omega (arith, some_left)) refl))
+    (λ t. let some_left : count xs ≡ 0 → ⊥ = eqb-false (count xs) 0 t in absurd (first_nowhere (greatest xs) 0 xs e (omega (arith, some_left)) refl))
 
-pub no-case : (xs : List (Option Held)) → count xs ≡ 0 → (totalsOf xs).place ≡ 0
-unfolding totalsOf
-no-case xs e = first-none (greatest xs) 0 xs e
+pub no_case : (xs : List (Option Held)) → count xs ≡ 0 → (totals_of xs).place ≡ 0
+unfolding totals_of
+no_case xs e = first_none (greatest xs) 0 xs e
 
 -- a place that is found lies behind those ahead of the list
-behind : (u k : ℕ) (xs : List (Option Held)) (j : ℕ) → firstWith u k xs ≡ suc j → k ≤ j
-unfolding firstWith
+behind : (u k : ℕ) (xs : List (Option Held)) (j : ℕ) → first_with u k xs ≡ suc j → k ≤ j
+unfolding first_with
 behind u k [] j e = absurd (omega arith)
 behind u k (none ∷ xs) j e = omega (arith, behind u (suc k) xs j e)
 behind u k (some h ∷ xs) j e =
@@ -38,24 +38,24 @@ behind u k (some h ∷ xs) j e =
     (λ t. let f : suc k ≡ suc j = rw t at e in omega arith)
     (λ t. omega (arith, behind u (suc k) xs j (rw t at e)))
 
-first-at : (u k : ℕ) (xs : List (Option Held)) (i : ℕ) → firstWith u k xs ≡ suc (k + i) → (h : Held) × (get_or xs i none ≡ some h) × (h.upper ≡ u)
-unfolding firstWith
-first-at u k [] i e = absurd (omega arith)
-first-at u k (none ∷ xs) zero e = absurd (omega (arith, behind u (suc k) xs (k + 0) e))
-first-at u k (none ∷ xs) (suc i) e = first-at u (suc k) xs i (e ∙ ap suc (omega arith))
-first-at u k (some h ∷ xs) zero e =
+first_at : (u k : ℕ) (xs : List (Option Held)) (i : ℕ) → first_with u k xs ≡ suc (k + i) → (h : Held) × (get_or xs i none ≡ some h) × (h.upper ≡ u)
+unfolding first_with
+first_at u k [] i e = absurd (omega arith)
+first_at u k (none ∷ xs) zero e = absurd (omega (arith, behind u (suc k) xs (k + 0) e))
+first_at u k (none ∷ xs) (suc i) e = first_at u (suc k) xs i (e ∙ ap suc (omega arith))
+first_at u k (some h ∷ xs) zero e =
     settle (eqb h.upper u)
     (λ t. (h, refl, eqb-true h.upper u t))
     (λ t. absurd (omega (arith, behind u (suc k) xs (k + 0) (rw t at e))))
-first-at u k (some h ∷ xs) (suc i) e =
+first_at u k (some h ∷ xs) (suc i) e =
     settle (eqb h.upper u)
     (λ t. let f : suc k ≡ suc (k + suc i) = rw t at e in absurd (omega arith))
-    (λ t. let f : firstWith u (suc k) xs ≡ suc (k + suc i) = rw t at e in first-at u (suc k) xs i (f ∙ ap suc (omega arith)))
+    (λ t. let f : first_with u (suc k) xs ≡ suc (k + suc i) = rw t at e in first_at u (suc k) xs i (f ∙ ap suc (omega arith)))
 
-none_before : (u k : ℕ) (xs : List (Option Held)) (i : ℕ) → firstWith u k xs ≡ suc (k + i) → (j : ℕ) → j < i → (h : Held) → get_or xs j none ≡ some h
+none_before : (u k : ℕ) (xs : List (Option Held)) (i : ℕ) → first_with u k xs ≡ suc (k + i) → (j : ℕ) → j < i → (h : Held) → get_or xs j none ≡ some h
     → h.upper ≡ u
     → ⊥
-unfolding firstWith
+unfolding first_with
 none_before u k [] i e j l h g = absurd (none-ne-some h g)
 none_before u k (x ∷ xs) zero e j l h g = absurd (omega arith)
 none_before u k (none ∷ xs) (suc i) e zero l h g = absurd (none-ne-some h g)
@@ -64,7 +64,7 @@ none_before u k (some b ∷ xs) (suc i) e j l h g =
     settle (eqb b.upper u)
     (λ t. let f : suc k ≡ suc (k + suc i) = rw t at e in absurd (omega arith))
     (λ t.
-    let f : firstWith u (suc k) xs ≡ suc (k + suc i) = rw t at e in
+    let f : first_with u (suc k) xs ≡ suc (k + suc i) = rw t at e in
     later j l g (eqb-false b.upper u t) (none_before u (suc k) xs i (f ∙ ap suc (omega arith))))
   where
     later : (j : ℕ) → j < suc i → get_or (some b ∷ xs) j none ≡ some h → (b.upper ≡ u → ⊥) →
@@ -81,13 +81,13 @@ pub record ShownOf (xs : List (Option Held)) (k : ℕ) : Type 0 where
   pub has : held.upper ≡ greatest xs
   pub first : (j : ℕ) → j < k → (h : Held) → at xs j ≡ some h → h.upper ≡ greatest xs → ⊥
 
-pub shown : (xs : List (Option Held)) (k : ℕ) → (totalsOf xs).place ≡ suc k → ShownOf xs (suc k)
-unfolding totalsOf at
+pub shown : (xs : List (Option Held)) (k : ℕ) → (totals_of xs).place ≡ suc k → ShownOf xs (suc k)
+unfolding totals_of at
 shown xs k e =
-    let f : firstWith (greatest xs) 0 xs ≡ suc (0 + k) = e ∙ ap suc (omega arith) in
-    let there = first-at (greatest xs) 0 xs k f in
+    let f : first_with (greatest xs) 0 xs ≡ suc (0 + k) = e ∙ ap suc (omega arith) in
+    let there = first_at (greatest xs) 0 xs k f in
     record { held = there.0; there = there.1; has = there.2; first = earlier f }
   where
-    earlier : firstWith (greatest xs) 0 xs ≡ suc (0 + k) → (j : ℕ) → j < suc k → (h : Held) → at xs j ≡ some h → h.upper ≡ greatest xs → ⊥
+    earlier : first_with (greatest xs) 0 xs ≡ suc (0 + k) → (j : ℕ) → j < suc k → (h : Held) → at xs j ≡ some h → h.upper ≡ greatest xs → ⊥
     earlier f zero l h g = absurd (none-ne-some h g)
     earlier f (suc j) l h g = none_before (greatest xs) 0 xs k f j (omega arith) h g

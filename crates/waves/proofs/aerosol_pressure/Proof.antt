@@ -4,17 +4,17 @@ use Prim.Native.Nat.{ℕ, ◌+◌, ◌*◌}
 use native.Mathlib.Omega.{arith}
 use Rattle.span.specs.declared.Span.{Span}
 use Rattle.span.specs.Spans.{Width, Product, Quotient, Summands, Sum}
-use Rattle.span.specs.Enclosing.{constant-encloses, product-encloses, quotient-encloses, sum-encloses, wider}
-use Rattle.guidance.specs.Waves.{thousandths, aerosolPressure}
-use Rattle.waves.specs.EndBounds.{product-upper, quotient-lower, sum-lower, exponent-most-of, constant-lower}
-use Rattle.waves.specs.Coefficients.{aerosolFirst, aerosolSecond, aerosolThird, aerosol-first, aerosol-second, aerosol-third}
+use Rattle.span.specs.Enclosing.{constant_encloses, product_encloses, quotient_encloses, sum_encloses, wider}
+use Rattle.guidance.specs.Waves.{thousandths, aerosol_pressure}
+use Rattle.waves.specs.EndBounds.{product_upper, quotient_lower, sum_lower, exponent_most_of, constant_lower}
+use Rattle.waves.specs.Coefficients.{aerosol_first, aerosol_second, aerosol_third, aerosol_first_lem, aerosol_second_lem, aerosol_third_lem}
 use Rattle.waves.specs.Detonation.{Distance, AerosolPressure}
-use Rattle.waves.proofs.Distances.{Window, window, squares, cubes, divides, square-divides, cube-divides}
+use Rattle.waves.proofs.Distances.{Window, window, squares, cubes, divides, square_divides, cube_divides}
 use Rattle.waves.proofs.aerosol_pressure.Statement.{statement}
 use Rattle.waves.proofs.aerosol_pressure.Tie as tie
 
 module _ {r square cube first second third : Span} (x : Distance 19 100 r) (p : Product r r square) (q : Product square r cube)
-    (t₁ : Quotient aerosolFirst r first) (t₂ : Quotient aerosolSecond square second) (t₃ : Quotient aerosolThird cube third) where
+    (t₁ : Quotient aerosol_first r first) (t₂ : Quotient aerosol_second square second) (t₃ : Quotient aerosol_third cube third) where
   two-add : Summands first second
   two-add =
       let k = window x (omega arith) (omega arith) in
@@ -24,7 +24,7 @@ module _ {r square cube first second third : Span} (x : Distance 19 100 r) (p : 
     three-add : Summands two third
     three-add =
         let k = window x (omega arith) (omega arith) in
-        omega (arith, u.normal, t₃.normal, p.least, p.most, q.least, q.most, t₁.least, t₁.most, t₂.least, t₂.most, t₃.least, t₃.most, u.least-left, u.most)
+        omega (arith, u.normal, t₃.normal, p.least, p.most, q.least, q.most, t₁.least, t₁.most, t₂.least, t₂.most, t₃.least, t₃.most, u.least_left, u.most)
 
     module _ {s : Span} (v : Sum two third s) where
       width : (D : ℕ) → Width r D → Width s (3 * D + 15)
@@ -34,33 +34,33 @@ module _ {r square cube first second third : Span} (x : Distance 19 100 r) (p : 
           wider (omega arith)
           (v.width (3 * D + 11)
           (wider (omega arith)
-          (u.width (2 * D + 7) (wider (omega arith) (t₁.width 1 D aerosol-first.width w)) (wider (omega arith) (t₂.width 1 _ aerosol-second.width w²))))
-          (wider (omega arith) (t₃.width 1 _ aerosol-third.width w³)))
+          (u.width (2 * D + 7) (wider (omega arith) (t₁.width 1 D aerosol_first_lem.width w)) (wider (omega arith) (t₂.width 1 _ aerosol_second_lem.width w²))))
+          (wider (omega arith) (t₃.width 1 _ aerosol_third_lem.width w³)))
 
       result : AerosolPressure r s
-      unfolding aerosolPressure
+      unfolding aerosol_pressure
       result =
           let k = window x (omega arith) (omega arith) in
           -- at 0.19 the three summands come to 7.81
-          let up² = product-upper x.normal x.normal p x.near x.near in
-          let up³ = product-upper p.normal x.normal q up² x.near in
+          let up² = product_upper x.normal x.normal p x.near x.near in
+          let up³ = product_upper p.normal x.normal q up² x.near in
           let lower =
-          sum-lower u.normal t₃.normal v
-          (sum-lower t₁.normal t₂.normal u
-          (quotient-lower aerosol-first.normal x.normal t₁ (constant-lower (thousandths 125) aerosol-first) x.near)
-          (quotient-lower aerosol-second.normal p.normal t₂ (constant-lower (thousandths 137) aerosol-second) up²))
-          (quotient-lower aerosol-third.normal q.normal t₃ (constant-lower (thousandths 23) aerosol-third) up³) in
+          sum_lower u.normal t₃.normal v
+          (sum_lower t₁.normal t₂.normal u
+          (quotient_lower aerosol_first_lem.normal x.normal t₁ (constant_lower (thousandths 125) aerosol_first_lem) x.near)
+          (quotient_lower aerosol_second_lem.normal p.normal t₂ (constant_lower (thousandths 137) aerosol_second_lem) up²))
+          (quotient_lower aerosol_third_lem.normal q.normal t₃ (constant_lower (thousandths 23) aerosol_third_lem) up³) in
           record {
             normal = v.normal;
             encloses = λ y n h.
-                let h² = product-encloses p h h in
-                let h³ = product-encloses q h² h in
-                sum-encloses v
-                (sum-encloses u (quotient-encloses t₁ (constant-encloses aerosol-first n) h) (quotient-encloses t₂ (constant-encloses aerosol-second n) h²))
-                (quotient-encloses t₃ (constant-encloses aerosol-third n) h³);
+                let h² = product_encloses p h h in
+                let h³ = product_encloses q h² h in
+                sum_encloses v
+                (sum_encloses u (quotient_encloses t₁ (constant_encloses aerosol_first_lem n) h) (quotient_encloses t₂ (constant_encloses aerosol_second_lem n) h²))
+                (quotient_encloses t₃ (constant_encloses aerosol_third_lem n) h³);
             width = λ D w. wider (omega arith) (width D w);
-            least = omega (arith, t₁.least, u.least-left, v.least-left);
-            most = exponent-most-of v.normal (wider (omega arith) (width _ x.narrow)) lower (omega arith) 3 (omega arith);
+            least = omega (arith, t₁.least, u.least_left, v.least_left);
+            most = exponent_most_of v.normal (wider (omega arith) (width _ x.narrow)) lower (omega arith) 3 (omega arith);
           }
 
 in_window : {r : Span} → Distance 19 100 r → Window r
@@ -81,8 +81,8 @@ aerosol-pressure-spec =
     (λ c κs. squares (in_window c.requires))
     (λ c κs. cubes (in_window c.before.requires) c.mul.ensures)
     (λ c κs. divides (in_window c.before.before.requires) (omega arith) (omega arith) (omega arith))
-    (λ c κs. let m = c.before in square-divides (in_window m.before.before.requires) m.before.mul.ensures (omega arith) (omega arith) (omega arith))
-    (λ c κs. let m = c.before.before in cube-divides (in_window m.before.before.requires) m.before.mul.ensures m.mul2.ensures (omega arith) (omega arith) (omega arith))
+    (λ c κs. let m = c.before in square_divides (in_window m.before.before.requires) m.before.mul.ensures (omega arith) (omega arith) (omega arith))
+    (λ c κs. let m = c.before.before in cube_divides (in_window m.before.before.requires) m.before.mul.ensures m.mul2.ensures (omega arith) (omega arith) (omega arith))
     (λ c κs. let m = c.before.before.before in two-add m.before.before.requires m.before.mul.ensures m.mul2.ensures c.before.before.quo.ensures c.before.quo2.ensures c.quo3.ensures)
     (λ c κs. let t = c.before in let m = t.before.before.before in three-add m.before.before.requires m.before.mul.ensures m.mul2.ensures t.before.before.quo.ensures t.before.quo2.ensures t.quo3.ensures c.add.ensures)
     returns)

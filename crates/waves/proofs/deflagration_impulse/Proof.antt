@@ -5,32 +5,32 @@ use native.Mathlib.Omega.{arith}
 use Rattle.exact.specs.Fraction.{whole}
 use Rattle.span.specs.declared.Span.{Span}
 use Rattle.span.specs.Spans.{Width, Product, Subtractable, Difference}
-use Rattle.span.specs.Enclosing.{constant-encloses, product-encloses, difference-encloses, wider}
-use Rattle.guidance.specs.Waves.{tenths, deflagrationImpulseAt}
-use Rattle.waves.specs.EndBounds.{normal-lower, constant-lower, constant-upper, product-lower, difference-lower, exponent-most-of, share-of}
-use Rattle.waves.specs.Coefficients.{one, fourTenths, one-is, four-tenths}
+use Rattle.span.specs.Enclosing.{constant_encloses, product_encloses, difference_encloses, wider}
+use Rattle.guidance.specs.Waves.{tenths, deflagration_impulse_at}
+use Rattle.waves.specs.EndBounds.{normal_lower, constant_lower, constant_upper, product_lower, difference_lower, exponent_most_of, share_of}
+use Rattle.waves.specs.Coefficients.{one, four_tenths, one_is, four_tenths_lem}
 use Rattle.waves.specs.Deflagration.{Deflagrating, FallingImpulse, DeflagrationImpulse}
-use Rattle.waves.proofs.Distances.{mach-exponent}
+use Rattle.waves.proofs.Distances.{mach_exponent}
 use Rattle.waves.proofs.deflagration_impulse.Statement.{statement}
 use Rattle.waves.proofs.deflagration_impulse.Tie as tie
 
-module _ {w g r part lost : Span} (x : Deflagrating w g r) (p : Product fourTenths g part) (q : Product part w lost) where
+module _ {w g r part lost : Span} (x : Deflagrating w g r) (p : Product four_tenths g part) (q : Product part w lost) where
   lost-width : (C : ℕ) → Width w C → Width lost (C + 6)
-  lost-width C k = wider (omega arith) (q.width _ C (p.width 1 1 four-tenths.width x.expansion-narrow) k)
+  lost-width C k = wider (omega arith) (q.width _ C (p.width 1 1 four_tenths_lem.width x.expansion_narrow) k)
 
   subtractable : Subtractable one lost
   unfolding whole
   subtractable =
       let low =
-      product-lower p.normal x.mach q
-      (product-lower four-tenths.normal x.expansion p (constant-lower (tenths 4) four-tenths) (normal-lower x.expansion 0 (omega (arith, x.exponent))))
-      x.mach-most in
+      product_lower p.normal x.mach q
+      (product_lower four_tenths_lem.normal x.expansion p (constant_lower (tenths 4) four_tenths_lem) (normal_lower x.expansion 0 (omega (arith, x.exponent))))
+      x.mach_most in
       record {
-        left = one-is.normal;
+        left = one_is.normal;
         right = q.normal;
         share =
-            share-of (constant-upper (whole 1) one-is) low (omega arith) (omega arith)
-            (wider (omega arith) one-is.width) (wider (omega arith) (lost-width _ x.mach-narrow));
+            share_of (constant_upper (whole 1) one_is) low (omega arith) (omega arith)
+            (wider (omega arith) one_is.width) (wider (omega arith) (lost-width _ x.mach_narrow));
         least = omega arith;
         most = omega arith;
       }
@@ -41,33 +41,33 @@ module _ {w g r part lost : Span} (x : Deflagrating w g r) (p : Product fourTent
     width C D k l =
         wider (omega arith)
         (v.width _ _
-        (d.width _ _ (a.width C 1 k x.expansion-narrow) (b.width 1 _ one-is.width (lost-width C k)))
+        (d.width _ _ (a.width C 1 k x.expansion_narrow) (b.width 1 _ one_is.width (lost-width C k)))
         (f.width D l))
 
     result : DeflagrationImpulse w g r s
-    unfolding deflagrationImpulseAt whole
+    unfolding deflagration_impulse_at whole
     result =
         -- 3/2 of 1 of 1 of 3/10
         let low =
-        product-lower d.normal f.normal v
-        (product-lower a.normal b.normal d
-        (product-lower x.mach x.expansion a x.mach-most (normal-lower x.expansion 0 (omega (arith, x.exponent))))
-        (difference-lower one-is.normal q.normal b (constant-lower (whole 1) one-is)))
+        product_lower d.normal f.normal v
+        (product_lower a.normal b.normal d
+        (product_lower x.mach x.expansion a x.mach_most (normal_lower x.expansion 0 (omega (arith, x.exponent))))
+        (difference_lower one_is.normal q.normal b (constant_lower (whole 1) one_is)))
         f.lower in
         record {
           normal = v.normal;
           encloses = λ y z t n h i j.
-              product-encloses v
-              (product-encloses d (product-encloses a h i)
-              (difference-encloses b (constant-encloses one-is n) (product-encloses q (product-encloses p (constant-encloses four-tenths n) i) h)))
+              product_encloses v
+              (product_encloses d (product_encloses a h i)
+              (difference_encloses b (constant_encloses one_is n) (product_encloses q (product_encloses p (constant_encloses four_tenths_lem n) i) h)))
               (f.encloses t n j);
           width = λ C D k l. wider (omega arith) (width C D k l);
-          least = omega (arith, x.exponent, x.mach-least, a.least, b.least, d.least, f.least, v.least);
-          most = exponent-most-of v.normal (wider (omega arith) (width _ _ x.mach-narrow x.distance.narrow)) low (omega arith) 0 (omega arith);
+          least = omega (arith, x.exponent, x.mach_least, a.least, b.least, d.least, f.least, v.least);
+          most = exponent_most_of v.normal (wider (omega arith) (width _ _ x.mach_narrow x.distance.narrow)) low (omega arith) 0 (omega arith);
         }
 
 mul-requires : tie.Need-mul-requires
-mul-requires c κs = let x = c.requires in omega (arith, mach-exponent x, x.mach, x.expansion, x.exponent, x.mach-least)
+mul-requires c κs = let x = c.requires in omega (arith, mach_exponent x, x.mach, x.expansion, x.exponent, x.mach_least)
 
 mul-requires-2 : tie.Need-mul-requires-2
 mul-requires-2 c κs = let x = c.before.requires in omega (arith, x.expansion, x.exponent)
@@ -76,7 +76,7 @@ mul-requires-3 : tie.Need-mul-requires-3
 mul-requires-3 c κs =
     let x = c.before.before.requires in
     let p = c.mul2.ensures in
-    omega (arith, mach-exponent x, x.mach, x.exponent, x.mach-least, p.normal, p.least, p.most)
+    omega (arith, mach_exponent x, x.mach, x.exponent, x.mach_least, p.normal, p.least, p.most)
 
 sub-requires : tie.Need-sub-requires
 sub-requires c κs = let m = c.before in subtractable m.before.before.requires m.mul2.ensures c.mul3.ensures
@@ -87,7 +87,7 @@ mul-requires-4 c κs =
     let x = m.before.requires in
     let a = m.mul.ensures in
     let b = c.sub.ensures in
-    omega (arith, mach-exponent x, x.exponent, x.mach-least, a.normal, a.least, a.most, b.normal, b.least, b.most)
+    omega (arith, mach_exponent x, x.exponent, x.mach_least, a.normal, a.least, a.most, b.normal, b.least, b.most)
 
 falling-impulse-requires : tie.Need-falling-impulse-requires
 falling-impulse-requires c κs = c.before.before.before.before.before.requires.distance
@@ -101,7 +101,7 @@ mul-requires-5 c κs =
     let b = k.sub.ensures in
     let d = c.before.mul4.ensures in
     let f = c.falling-impulse.ensures in
-    omega (arith, mach-exponent x, x.exponent, x.mach-least, a.least, a.most, b.least, b.most, d.normal, d.least, d.most, f.normal, f.least, f.most)
+    omega (arith, mach_exponent x, x.exponent, x.mach_least, a.least, a.most, b.least, b.most, d.normal, d.least, d.most, f.normal, f.least, f.most)
 
 returns : tie.Need-returns
 returns c =

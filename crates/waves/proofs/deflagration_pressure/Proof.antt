@@ -3,43 +3,43 @@ use Prim.Native.Nat.{ℕ, ◌+◌, ◌*◌}
 use native.Mathlib.Omega.{arith}
 use Rattle.span.specs.declared.Span.{Span}
 use Rattle.span.specs.Spans.{Width, Product}
-use Rattle.span.specs.Enclosing.{product-encloses, wider}
-use Rattle.guidance.specs.Waves.{deflagrationPressureAt}
-use Rattle.waves.specs.EndBounds.{normal-lower, product-lower, exponent-most-of}
+use Rattle.span.specs.Enclosing.{product_encloses, wider}
+use Rattle.guidance.specs.Waves.{deflagration_pressure_at}
+use Rattle.waves.specs.EndBounds.{normal_lower, product_lower, exponent_most_of}
 use Rattle.waves.specs.Deflagration.{Deflagrating, FallingPressure, DeflagrationPressure}
-use Rattle.waves.proofs.Distances.{mach-exponent}
+use Rattle.waves.proofs.Distances.{mach_exponent}
 use Rattle.waves.proofs.deflagration_pressure.Statement.{statement}
 use Rattle.waves.proofs.deflagration_pressure.Tie as tie
 
 module _ {w g r square share fall s : Span} (x : Deflagrating w g r) (p : Product w w square) (q : Product square g share)
     (f : FallingPressure r fall) (v : Product share fall s) where
   width : (C D : ℕ) → Width w C → Width r D → Width s (2 * C + 12 * D + 65)
-  width C D k l = wider (omega arith) (v.width _ _ (q.width _ 1 (p.width C C k k) x.expansion-narrow) (f.width D l))
+  width C D k l = wider (omega arith) (v.width _ _ (q.width _ 1 (p.width C C k k) x.expansion_narrow) (f.width D l))
 
   result : DeflagrationPressure w g r s
-  unfolding deflagrationPressureAt
+  unfolding deflagration_pressure_at
   result =
       -- 9/4 of 1 of 83/33
       let low =
-      product-lower q.normal f.normal v
-      (product-lower p.normal x.expansion q (product-lower x.mach x.mach p x.mach-most x.mach-most) (normal-lower x.expansion 0 (omega (arith, x.exponent))))
+      product_lower q.normal f.normal v
+      (product_lower p.normal x.expansion q (product_lower x.mach x.mach p x.mach_most x.mach_most) (normal_lower x.expansion 0 (omega (arith, x.exponent))))
       f.lower in
       record {
         normal = v.normal;
-        encloses = λ a b c n h i j. product-encloses v (product-encloses q (product-encloses p h h) i) (f.encloses c n j);
+        encloses = λ a b c n h i j. product_encloses v (product_encloses q (product_encloses p h h) i) (f.encloses c n j);
         width = λ C D k l. wider (omega arith) (width C D k l);
-        least = omega (arith, x.exponent, x.mach-least, p.least, q.least, f.least, v.least);
-        most = exponent-most-of v.normal (wider (omega arith) (width _ _ x.mach-narrow x.distance.narrow)) low (omega arith) 3 (omega arith);
+        least = omega (arith, x.exponent, x.mach_least, p.least, q.least, f.least, v.least);
+        most = exponent_most_of v.normal (wider (omega arith) (width _ _ x.mach_narrow x.distance.narrow)) low (omega arith) 3 (omega arith);
       }
 
 mul-requires : tie.Need-mul-requires
-mul-requires c κs = let x = c.requires in omega (arith, mach-exponent x, x.mach, x.expansion, x.exponent, x.mach-least)
+mul-requires c κs = let x = c.requires in omega (arith, mach_exponent x, x.mach, x.expansion, x.exponent, x.mach_least)
 
 mul-requires-2 : tie.Need-mul-requires-2
 mul-requires-2 c κs =
     let x = c.before.requires in
     let p = c.mul.ensures in
-    omega (arith, mach-exponent x, x.mach, x.expansion, x.exponent, x.mach-least, p.normal, p.least, p.most)
+    omega (arith, mach_exponent x, x.mach, x.expansion, x.exponent, x.mach_least, p.normal, p.least, p.most)
 
 falling-pressure-requires : tie.Need-falling-pressure-requires
 falling-pressure-requires c κs = c.before.before.requires.distance
@@ -50,7 +50,7 @@ mul-requires-3 c κs =
     let p = c.before.before.mul.ensures in
     let q = c.before.mul2.ensures in
     let f = c.falling-pressure.ensures in
-    omega (arith, mach-exponent x, x.exponent, x.mach-least, p.least, p.most, q.normal, q.least, q.most, f.normal, f.least, f.most)
+    omega (arith, mach_exponent x, x.exponent, x.mach_least, p.least, p.most, q.normal, q.least, q.most, f.normal, f.least, f.most)
 
 returns : tie.Need-returns
 returns c =

@@ -5,35 +5,35 @@ use mathlib.Core.Path.{◌≡◌, sym, subst}
 use native.Mathlib.Omega.{arith}
 use lib.Dec.{eqb}
 use borrow.Author.Tests.{eq-eqb, ne_eqb}
-use Rattle.exact.specs.Fraction.{whole, ofRatio}
+use Rattle.exact.specs.Fraction.{whole, of_ratio}
 use Rattle.span.specs.declared.Span.{Span}
 use Rattle.span.specs.Spans.{Constant}
-use Rattle.span.specs.Enclosing.{Encloses, constant-encloses}
+use Rattle.span.specs.Enclosing.{Encloses, constant_encloses}
 use Rattle.guidance.specs.Waves.{number}
-use Rattle.waves.specs.EndBounds.{constant-lower, lower-coarser}
-use Rattle.waves.specs.Coefficients.{factor-43, factor-26}
+use Rattle.waves.specs.EndBounds.{constant_lower, lower_coarser}
+use Rattle.waves.specs.Coefficients.{factor_43, factor_26}
 use Rattle.waves.specs.Fronts.{Factor}
 use Rattle.waves.proofs.Choices.{picked, passed}
 use Rattle.waves.proofs.factor.Statement.{statement}
 use Rattle.waves.proofs.factor.Tie as tie
 
 -- the whole number m, which is the one that the test picks
-factor-is : (range : ℕ) (m k : ℕ) {s : Span} → Constant (ofRatio (whole m)) k s → m ≡ cond (eqb range 5) 43 26 → 998 ≤ k → m ≤ 43 → Factor range s
+factor-is : (range : ℕ) (m k : ℕ) {s : Span} → Constant (of_ratio (whole m)) k s → m ≡ cond (eqb range 5) 43 26 → 998 ≤ k → m ≤ 43 → Factor range s
 unfolding whole
 factor-is range m k {s} c h l u =
     record {
       normal = c.normal;
-      encloses = λ n. subst (λ (i : ℕ). Encloses s (number (whole i)) n) h (constant-encloses c n);
+      encloses = λ n. subst (λ (i : ℕ). Encloses s (number (whole i)) n) h (constant_encloses c n);
       width = c.width;
       least = omega (arith, c.exponent);
-      most = lower-coarser (constant-lower (whole m) c) (omega arith) (omega arith);
+      most = lower_coarser (constant_lower (whole m) c) (omega arith) (omega arith);
     }
 
 returns : tie.Need-returns
-returns c = factor-is _ 43 999 factor-43 (sym (picked _ 43 26 (eq-eqb _ 5 c.if1.true))) (omega arith) (omega arith)
+returns c = factor-is _ 43 999 factor_43 (sym (picked _ 43 26 (eq-eqb _ 5 c.if1.true))) (omega arith) (omega arith)
 
 returns-2 : tie.Need-returns-2
-returns-2 c = factor-is _ 26 998 factor-26 (sym (passed _ 43 26 (ne_eqb _ 5 c.if1.false))) (omega arith) (omega arith)
+returns-2 c = factor-is _ 26 998 factor_26 (sym (passed _ 43 26 (ne_eqb _ 5 c.if1.false))) (omega arith) (omega arith)
 
 pub factor-spec : {M : Type 1} → statement M
 factor-spec = tie.close (tie.spec returns returns-2)

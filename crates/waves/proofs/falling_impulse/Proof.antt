@@ -6,13 +6,13 @@ use native.Mathlib.Omega.{arith}
 use lib.Pow.{pow_pos}
 use Rattle.span.specs.declared.Span.{Span}
 use Rattle.span.specs.Spans.{unit, Width, Product, Quotient, Summands, Sum, Subtractable, Difference}
-use Rattle.span.specs.Enclosing.{constant-encloses, product-encloses, quotient-encloses, sum-encloses, difference-encloses, wider, divisor}
-use Rattle.guidance.specs.Waves.{hundredths, tenThousandths, fallingImpulse}
-use Rattle.waves.specs.EndBounds.{lower-itself, upper-itself, lower-coarser, constant-lower, constant-upper, product-upper, quotient-lower, quotient-upper, sum-lower, sum-upper, difference-lower, exponent-most-of, share-of}
-use Rattle.waves.specs.Coefficients.{pushFirst, pushSecond, pushThird, push-first, push-second, push-third}
+use Rattle.span.specs.Enclosing.{constant_encloses, product_encloses, quotient_encloses, sum_encloses, difference_encloses, wider, divisor}
+use Rattle.guidance.specs.Waves.{hundredths, ten_thousandths, falling_impulse}
+use Rattle.waves.specs.EndBounds.{lower_itself, upper_itself, lower_coarser, constant_lower, constant_upper, product_upper, quotient_lower, quotient_upper, sum_lower, sum_upper, difference_lower, exponent_most_of, share_of}
+use Rattle.waves.specs.Coefficients.{push_first, push_second, push_third, push_first_lem, push_second_lem, push_third_lem}
 use Rattle.waves.specs.Detonation.{Distance}
 use Rattle.waves.specs.Deflagration.{FallingImpulse}
-use Rattle.waves.proofs.Distances.{Window, window, squares, cubes, divides, square-divides, cube-divides}
+use Rattle.waves.proofs.Distances.{Window, window, squares, cubes, divides, square_divides, cube_divides}
 use Rattle.waves.proofs.falling_impulse.Statement.{statement}
 use Rattle.waves.proofs.falling_impulse.Tie as tie
 
@@ -22,7 +22,7 @@ seven-tenths X Y U o near =
     omega (arith, mul-le-mul_right (U * U * U) o, mul-le-mul_right (X * U * U) near, mul-le-mul_right (X * X * U) near)
 
 module _ {r square cube first second third : Span} (x : Distance 33 100 r) (p : Product r r square) (q : Product square r cube)
-    (t₁ : Quotient pushFirst r first) (t₂ : Quotient pushSecond square second) (t₃ : Quotient pushThird cube third) where
+    (t₁ : Quotient push_first r first) (t₂ : Quotient push_second square second) (t₃ : Quotient push_third cube third) where
   adds : Summands first second
   adds =
       let k = window x (omega arith) (omega arith) in
@@ -32,10 +32,10 @@ module _ {r square cube first second third : Span} (x : Distance 33 100 r) (p : 
     two-width : (D : ℕ) → Width r D → Width two (2 * D + 11)
     two-width D w =
         wider (omega arith)
-        (u.width (2 * D + 7) (wider (omega arith) (t₁.width 1 D push-first.width w)) (wider (omega arith) (t₂.width 1 _ push-second.width (p.width D D w w))))
+        (u.width (2 * D + 7) (wider (omega arith) (t₁.width 1 D push_first_lem.width w)) (wider (omega arith) (t₂.width 1 _ push_second_lem.width (p.width D D w w))))
 
     third-width : (D : ℕ) → Width r D → Width third (3 * D + 9)
-    third-width D w = wider (omega arith) (t₃.width 1 _ push-third.width (q.width _ D (p.width D D w w) w))
+    third-width D w = wider (omega arith) (t₃.width 1 _ push_third_lem.width (q.width _ D (p.width D D w w) w))
 
     subtractable : Subtractable two third
     subtractable =
@@ -47,18 +47,18 @@ module _ {r square cube first second third : Span} (x : Distance 33 100 r) (p : 
         let order : Y ≤ X = mul-le-mul_right (2 ^ r.e) x.normal.ordered in
         let cubed : 0 < X * X * X = mul-pos {m = X * X} (mul-pos {m = X} (omega arith) (omega arith)) (omega arith) in
         let f =
-        sum-upper t₁.normal t₂.normal u
-        (quotient-upper push-first.normal x.normal t₁ (constant-upper (hundredths 6) push-first) (lower-itself r)) in
-        let square-up = product-upper x.normal x.normal p (upper-itself r) (upper-itself r) in
-        let cube-up = product-upper p.normal x.normal q square-up (upper-itself r) in
-        let s = quotient-lower push-third.normal q.normal t₃ (constant-lower (tenThousandths 25) push-third) cube-up in
+        sum_upper t₁.normal t₂.normal u
+        (quotient_upper push_first_lem.normal x.normal t₁ (constant_upper (hundredths 6) push_first_lem) (lower_itself r)) in
+        let square-up = product_upper x.normal x.normal p (upper_itself r) (upper_itself r) in
+        let cube-up = product_upper p.normal x.normal q square-up (upper_itself r) in
+        let s = quotient_lower push_third_lem.normal q.normal t₃ (constant_lower (ten_thousandths 25) push_third_lem) cube-up in
         record {
           left = u.normal;
           right = t₃.normal;
           share =
-              share-of f s (mul-pos {m = 100 * Y} (omega arith) (omega arith)) (seven-tenths X Y U order x.near.above)
+              share_of f s (mul-pos {m = 100 * Y} (omega arith) (omega arith)) (seven-tenths X Y U order x.near.above)
               (wider (omega arith) (two-width _ x.narrow)) (wider (omega arith) (third-width _ x.narrow));
-          least = omega (arith, t₁.least, u.least-left);
+          least = omega (arith, t₁.least, u.least_left);
           most = omega (arith, p.least, t₁.most, t₂.most, u.most);
         }
 
@@ -67,27 +67,27 @@ module _ {r square cube first second third : Span} (x : Distance 33 100 r) (p : 
       width D w = wider (omega arith) (v.width _ _ (two-width D w) (third-width D w))
 
       result : FallingImpulse r s
-      unfolding fallingImpulse
+      unfolding falling_impulse
       result =
           let k = window x (omega arith) (omega arith) in
-          let square-up = product-upper x.normal x.normal p x.near x.near in
+          let square-up = product_upper x.normal x.normal p x.near x.near in
           let low =
-          difference-lower u.normal t₃.normal v
-          (sum-lower t₁.normal t₂.normal u
-          (quotient-lower push-first.normal x.normal t₁ (constant-lower (hundredths 6) push-first) x.near)
-          (quotient-lower push-second.normal p.normal t₂ (constant-lower (hundredths 1) push-second) square-up)) in
+          difference_lower u.normal t₃.normal v
+          (sum_lower t₁.normal t₂.normal u
+          (quotient_lower push_first_lem.normal x.normal t₁ (constant_lower (hundredths 6) push_first_lem) x.near)
+          (quotient_lower push_second_lem.normal p.normal t₂ (constant_lower (hundredths 1) push_second_lem) square-up)) in
           record {
             normal = v.normal;
             encloses = λ y n h.
-                let h² = product-encloses p h h in
-                let h³ = product-encloses q h² h in
-                difference-encloses v
-                (sum-encloses u (quotient-encloses t₁ (constant-encloses push-first n) h) (quotient-encloses t₂ (constant-encloses push-second n) h²))
-                (quotient-encloses t₃ (constant-encloses push-third n) h³);
+                let h² = product_encloses p h h in
+                let h³ = product_encloses q h² h in
+                difference_encloses v
+                (sum_encloses u (quotient_encloses t₁ (constant_encloses push_first_lem n) h) (quotient_encloses t₂ (constant_encloses push_second_lem n) h²))
+                (quotient_encloses t₃ (constant_encloses push_third_lem n) h³);
             width = λ D w. wider (omega arith) (width D w);
-            lower = lower-coarser low (omega arith) (omega arith);
-            least = omega (arith, t₁.least, u.least-left, v.least);
-            most = exponent-most-of v.normal (wider (omega arith) (width _ x.narrow)) low (omega arith) 0 (omega arith);
+            lower = lower_coarser low (omega arith) (omega arith);
+            least = omega (arith, t₁.least, u.least_left, v.least);
+            most = exponent_most_of v.normal (wider (omega arith) (width _ x.narrow)) low (omega arith) 0 (omega arith);
           }
 
 in_window : {r : Span} → Distance 33 100 r → Window r
@@ -108,8 +108,8 @@ falling-impulse-spec =
     (λ c κs. squares (in_window c.requires))
     (λ c κs. cubes (in_window c.before.requires) c.mul.ensures)
     (λ c κs. divides (in_window c.before.before.requires) (omega arith) (omega arith) (omega arith))
-    (λ c κs. let m = c.before in square-divides (in_window m.before.before.requires) m.before.mul.ensures (omega arith) (omega arith) (omega arith))
-    (λ c κs. let m = c.before.before in cube-divides (in_window m.before.before.requires) m.before.mul.ensures m.mul2.ensures (omega arith) (omega arith) (omega arith))
+    (λ c κs. let m = c.before in square_divides (in_window m.before.before.requires) m.before.mul.ensures (omega arith) (omega arith) (omega arith))
+    (λ c κs. let m = c.before.before in cube_divides (in_window m.before.before.requires) m.before.mul.ensures m.mul2.ensures (omega arith) (omega arith) (omega arith))
     (λ c κs. let m = c.before.before.before in adds m.before.before.requires m.before.mul.ensures m.mul2.ensures c.before.before.quo.ensures c.before.quo2.ensures c.quo3.ensures)
     (λ c κs. let t = c.before in let m = t.before.before.before in subtractable m.before.before.requires m.before.mul.ensures m.mul2.ensures t.before.before.quo.ensures t.before.quo2.ensures t.quo3.ensures c.add.ensures)
     returns)

@@ -6,13 +6,13 @@ use native.Mathlib.Omega.{arith}
 use lib.Pow.{pow_pos}
 use Rattle.span.specs.declared.Span.{Span}
 use Rattle.span.specs.Spans.{unit, Width, Product, Quotient, Subtractable, Difference}
-use Rattle.span.specs.Enclosing.{constant-encloses, product-encloses, quotient-encloses, difference-encloses, wider, divisor}
-use Rattle.guidance.specs.Waves.{hundredths, fallingPressure}
-use Rattle.waves.specs.EndBounds.{lower-itself, upper-itself, lower-coarser, constant-lower, constant-upper, product-upper, quotient-lower, quotient-upper, difference-lower, exponent-most-of, share-of}
-use Rattle.waves.specs.Coefficients.{fallingFirst, fallingSecond, falling-first, falling-second}
+use Rattle.span.specs.Enclosing.{constant_encloses, product_encloses, quotient_encloses, difference_encloses, wider, divisor}
+use Rattle.guidance.specs.Waves.{hundredths, falling_pressure}
+use Rattle.waves.specs.EndBounds.{lower_itself, upper_itself, lower_coarser, constant_lower, constant_upper, product_upper, quotient_lower, quotient_upper, difference_lower, exponent_most_of, share_of}
+use Rattle.waves.specs.Coefficients.{falling_first, falling_second, falling_first_lem, falling_second_lem}
 use Rattle.waves.specs.Detonation.{Distance}
 use Rattle.waves.specs.Deflagration.{FallingPressure}
-use Rattle.waves.proofs.Distances.{Window, window, squares, divides, square-divides}
+use Rattle.waves.proofs.Distances.{Window, window, squares, divides, square_divides}
 use Rattle.waves.proofs.falling_pressure.Statement.{statement}
 use Rattle.waves.proofs.falling_pressure.Tie as tie
 
@@ -21,7 +21,7 @@ seven-tenths : (X Y U : ℕ) → Y ≤ X → 33 * U ≤ X * 100 → 10 * (14 * (
 seven-tenths X Y U o near = omega (arith, mul-le-mul_right (U * U) o, mul-le-mul_right (X * U) near)
 
 module _ {r square first second : Span} (x : Distance 33 100 r) (p : Product r r square)
-    (t₁ : Quotient fallingFirst r first) (t₂ : Quotient fallingSecond square second) where
+    (t₁ : Quotient falling_first r first) (t₂ : Quotient falling_second square second) where
   subtractable : Subtractable first second
   subtractable =
       let k = window x (omega arith) (omega arith) in
@@ -31,16 +31,16 @@ module _ {r square first second : Span} (x : Distance 33 100 r) (p : Product r r
       let pos : 0 < Y = mul-pos {m = r.lo} (omega (arith, divisor x.normal x.narrow (omega arith))) (pow_pos r.e) in
       let order : Y ≤ X = mul-le-mul_right (2 ^ r.e) x.normal.ordered in
       let xx : 0 < X * X = mul-pos {m = X} (omega arith) (omega arith) in
-      let f = quotient-upper falling-first.normal x.normal t₁ (constant-upper (hundredths 83) falling-first) (lower-itself r) in
-      let square-up = product-upper x.normal x.normal p (upper-itself r) (upper-itself r) in
-      let s = quotient-lower falling-second.normal p.normal t₂ (constant-lower (hundredths 14) falling-second) square-up in
+      let f = quotient_upper falling_first_lem.normal x.normal t₁ (constant_upper (hundredths 83) falling_first_lem) (lower_itself r) in
+      let square-up = product_upper x.normal x.normal p (upper_itself r) (upper_itself r) in
+      let s = quotient_lower falling_second_lem.normal p.normal t₂ (constant_lower (hundredths 14) falling_second_lem) square-up in
       record {
         left = t₁.normal;
         right = t₂.normal;
         share =
-            share-of f s (mul-pos {m = 100 * Y} (omega arith) (omega arith)) (seven-tenths X Y U order x.near.above)
-            (wider (omega arith) (t₁.width 1 _ falling-first.width x.narrow))
-            (wider (omega arith) (t₂.width 1 _ falling-second.width (p.width _ _ x.narrow x.narrow)));
+            share_of f s (mul-pos {m = 100 * Y} (omega arith) (omega arith)) (seven-tenths X Y U order x.near.above)
+            (wider (omega arith) (t₁.width 1 _ falling_first_lem.width x.narrow))
+            (wider (omega arith) (t₂.width 1 _ falling_second_lem.width (p.width _ _ x.narrow x.narrow)));
         least = omega (arith, t₁.least);
         most = omega (arith, t₁.most);
       }
@@ -48,24 +48,24 @@ module _ {r square first second : Span} (x : Distance 33 100 r) (p : Product r r
   module _ {s : Span} (v : Difference first second s) where
     width : (D : ℕ) → Width r D → Width s (12 * D + 58)
     width D w =
-        wider (omega arith) (v.width _ _ (t₁.width 1 D falling-first.width w) (t₂.width 1 _ falling-second.width (p.width D D w w)))
+        wider (omega arith) (v.width _ _ (t₁.width 1 D falling_first_lem.width w) (t₂.width 1 _ falling_second_lem.width (p.width D D w w)))
 
     result : FallingPressure r s
-    unfolding fallingPressure
+    unfolding falling_pressure
     result =
         let k = window x (omega arith) (omega arith) in
         let low =
-        difference-lower t₁.normal t₂.normal v
-        (quotient-lower falling-first.normal x.normal t₁ (constant-lower (hundredths 83) falling-first) x.near) in
+        difference_lower t₁.normal t₂.normal v
+        (quotient_lower falling_first_lem.normal x.normal t₁ (constant_lower (hundredths 83) falling_first_lem) x.near) in
         record {
           normal = v.normal;
           encloses = λ y n h.
-              difference-encloses v (quotient-encloses t₁ (constant-encloses falling-first n) h)
-              (quotient-encloses t₂ (constant-encloses falling-second n) (product-encloses p h h));
+              difference_encloses v (quotient_encloses t₁ (constant_encloses falling_first_lem n) h)
+              (quotient_encloses t₂ (constant_encloses falling_second_lem n) (product_encloses p h h));
           width = λ D w. wider (omega arith) (width D w);
-          lower = lower-coarser low (omega arith) (omega arith);
+          lower = lower_coarser low (omega arith) (omega arith);
           least = omega (arith, t₁.least, v.least);
-          most = exponent-most-of v.normal (wider (omega arith) (width _ x.narrow)) low (omega arith) 2 (omega arith);
+          most = exponent_most_of v.normal (wider (omega arith) (width _ x.narrow)) low (omega arith) 2 (omega arith);
         }
 
 in_window : {r : Span} → Distance 33 100 r → Window r
@@ -78,7 +78,7 @@ quo-requires : tie.Need-quo-requires
 quo-requires c κs = divides (in_window c.before.requires) (omega arith) (omega arith) (omega arith)
 
 quo-requires-2 : tie.Need-quo-requires-2
-quo-requires-2 c κs = square-divides (in_window c.before.before.requires) c.before.mul.ensures (omega arith) (omega arith) (omega arith)
+quo-requires-2 c κs = square_divides (in_window c.before.before.requires) c.before.mul.ensures (omega arith) (omega arith) (omega arith)
 
 sub-requires : tie.Need-sub-requires
 sub-requires c κs = let m = c.before.before in subtractable m.before.requires m.mul.ensures c.before.quo.ensures c.quo2.ensures

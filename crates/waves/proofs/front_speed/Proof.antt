@@ -8,19 +8,19 @@ use borrow.Author.Tests.{lt-ltb, le-ltb}
 use Rattle.exact.specs.Fraction.{whole}
 use Rattle.exact.specs.Formula.{Formula}
 use Rattle.span.specs.declared.Span.{Span}
-use Rattle.guidance.specs.Waves.{number, rangeEnd, slowFront, frontSpeedOf}
+use Rattle.guidance.specs.Waves.{number, range_end, slow_front, front_speed_of}
 use Rattle.waves.specs.Fronts.{Front}
 use Rattle.waves.proofs.Choices.{picked, passed}
 use Rattle.waves.proofs.front_speed.Statement.{statement}
 use Rattle.waves.proofs.front_speed.Tie as tie
 
 module _ (range mass : ℕ) {v : Span} where
-  to-range-4 : range < 5 → Front (number (whole (rangeEnd range))) v → Front (frontSpeedOf range mass) v
-  unfolding frontSpeedOf
+  to-range-4 : range < 5 → Front (number (whole (range_end range))) v → Front (front_speed_of range mass) v
+  unfolding front_speed_of
   to-range-4 h f = subst (λ (x : Formula). Front x v) (sym (picked (ltb range 5) _ _ (lt-ltb range 5 h))) f
 
-  from-range-5 : 5 ≤ range → Front (slowFront range mass) v → Front (frontSpeedOf range mass) v
-  unfolding frontSpeedOf
+  from-range-5 : 5 ≤ range → Front (slow_front range mass) v → Front (front_speed_of range mass) v
+  unfolding front_speed_of
   from-range-5 h f = subst (λ (x : Formula). Front x v) (sym (passed (ltb range 5) _ _ (le-ltb range 5 h))) f
 
 range-end-requires : tie.Need-range-end-requires

@@ -8,35 +8,35 @@ use Rattle.span.specs.Enclosing as spans
 use Rattle.fixed.specs.declared.Log.{Log}
 use Rattle.fixed.specs.Logs.{Narrow, Small}
 use Rattle.fixed.specs.Promises.{Summands, LogDifference, LogProduct, Scaled}
-use Rattle.fixed.specs.Enclosing.{constant-encloses, difference-encloses, product-encloses, scaled-encloses, ratio-value, wider, larger}
+use Rattle.fixed.specs.Enclosing.{constant_encloses, difference_encloses, product_encloses, scaled_encloses, ratio_value, wider, larger}
 use Rattle.enclosure.specs.Promises.{Exponent, Exponential}
-use Rattle.enclosure.specs.Enclosing.{expo-encloses}
-use Rattle.guidance.specs.Waves.{thousandths, tenThousandths, gasImpulse}
-use Rattle.waves.specs.Coefficients.{impulseStart, impulse-start}
+use Rattle.enclosure.specs.Enclosing.{expo_encloses}
+use Rattle.guidance.specs.Waves.{thousandths, ten_thousandths, gas_impulse}
+use Rattle.waves.specs.Coefficients.{impulse_start, impulse_start_lem}
 use Rattle.waves.specs.Gas.{Logged, GasImpulse}
-use Rattle.waves.proofs.Exponents.{impulse-most, impulse-least, upper-point, upper-most, upper-least, scales, squares, square-small, square-scales, square-width}
+use Rattle.waves.proofs.Exponents.{impulse_most, impulse_least, upper_point, upper_most, upper_least, scales, squares, square_small, square_scales, square_width}
 use Rattle.waves.proofs.gas_impulse.Statement.{statement}
 use Rattle.waves.proofs.gas_impulse.Tie as tie
 
-start_small : Small impulseStart (4 * 2 ^ 30)
+start_small : Small impulse_start (4 * 2 ^ 30)
 start_small = record { lo-up = omega arith; lo-dn = omega arith; hi-up = omega arith; hi-dn = omega arith }
 
-starts : {l first : Log} {i : ℕ} → Logged l → Scaled i 10000 l first → i ≡ 8980 → Summands impulseStart first
+starts : {l first : Log} {i : ℕ} → Logged l → Scaled i 10000 l first → i ≡ 8980 → Summands impulse_start first
 starts x f i =
     record {
-      left = impulse-start.ordered;
+      left = impulse_start_lem.ordered;
       right = f.ordered;
       small-left = larger (omega arith) start_small;
       small-right = larger (omega arith) (f.small (5 * 2 ^ 30) (5 * 2 ^ 30) x.small (omega arith));
     }
 
 module _ {l first square second start : Log} {i j : ℕ} (x : Logged l) (f : Scaled i 10000 l first) (p : LogProduct l l square)
-    (q : Scaled j 10000 square second) (d : LogDifference impulseStart first start) (first-factor : i ≡ 8980) (second-factor : j ≡ 96) where
+    (q : Scaled j 10000 square second) (d : LogDifference impulse_start first start) (first-factor : i ≡ 8980) (second-factor : j ≡ 96) where
   first_small : Small first (5 * 2 ^ 30)
   first_small = f.small (5 * 2 ^ 30) (5 * 2 ^ 30) x.small (omega arith)
 
   second-small : Small second (2 ^ 30)
-  second-small = q.small (26 * 2 ^ 30) (2 ^ 30) (square-small x p) (omega arith)
+  second-small = q.small (26 * 2 ^ 30) (2 ^ 30) (square_small x p) (omega arith)
 
   both_small : Small start (9 * 2 ^ 30)
   both_small = larger (omega arith) (d.small _ _ start_small first_small)
@@ -53,35 +53,35 @@ module _ {l first square second start : Log} {i j : ℕ} (x : Logged l) (f : Sca
     y-width W w =
         wider (omega arith)
         (a.width _ _
-        (d.width _ _ impulse-start.width (f.width W W w (omega (arith, ap (λ (k : ℕ). W * k) first-factor))))
-        (q.width _ (W + 1) (square-width x p W w) (omega (arith, ap (λ (k : ℕ). W * k) second-factor))))
+        (d.width _ _ impulse_start_lem.width (f.width W W w (omega (arith, ap (λ (k : ℕ). W * k) first-factor))))
+        (q.width _ (W + 1) (square_width x p W w) (omega (arith, ap (λ (k : ℕ). W * k) second-factor))))
 
     exponent : Exponent y
     exponent =
         record {
           ordered = a.ordered;
           narrow = wider (omega arith) (y-width _ x.narrow);
-          least = omega (arith, y-small.lo-dn);
-          most = omega (arith, y-small.hi-up);
+          least = omega (arith, y-small.lo_dn);
+          most = omega (arith, y-small.hi_up);
         }
 
     result : {s : Span} → Exponential y s → GasImpulse l s
-    unfolding gasImpulse
+    unfolding gas_impulse
     result e =
-        let in-l = upper-point x.ordered in
+        let in-l = upper_point x.ordered in
         let at =
         a.holds _ _
-        (d.holds _ _ impulse-start.holds (f.holds _ _ (ratio-value (thousandths 898) i 10000 (omega arith)) in-l))
-        (q.holds _ _ (ratio-value (tenThousandths 96) j 10000 (omega arith)) (p.holds _ _ in-l in-l)) in
-        let most = upper-most 5 4 (omega arith) at (impulse-most l.hi x.small.hi-up x.small.hi-dn _) (y-width _ x.narrow) in
-        let least = upper-least y 9 1 (omega arith) at (impulse-least l.hi x.small.hi-up x.small.hi-dn _) in
+        (d.holds _ _ impulse_start_lem.holds (f.holds _ _ (ratio_value (thousandths 898) i 10000 (omega arith)) in-l))
+        (q.holds _ _ (ratio_value (ten_thousandths 96) j 10000 (omega arith)) (p.holds _ _ in-l in-l)) in
+        let most = upper_most 5 4 (omega arith) at (impulse_most l.hi x.small.hi_up x.small.hi_dn _) (y-width _ x.narrow) in
+        let least = upper_least y 9 1 (omega arith) at (impulse_least l.hi x.small.hi_up x.small.hi_dn _) in
         record {
           normal = e.normal;
           encloses = λ z n enough h.
-              expo-encloses e enough
-              (difference-encloses a
-              (difference-encloses d (constant-encloses impulse-start n) (scaled-encloses f (ratio-value (thousandths 898) i 10000 (omega arith)) h))
-              (scaled-encloses q (ratio-value (tenThousandths 96) j 10000 (omega arith)) (product-encloses p h h)));
+              expo_encloses e enough
+              (difference_encloses a
+              (difference_encloses d (constant_encloses impulse_start_lem n) (scaled_encloses f (ratio_value (thousandths 898) i 10000 (omega arith)) h))
+              (scaled_encloses q (ratio_value (ten_thousandths 96) j 10000 (omega arith)) (product_encloses p h h)));
           width = λ W w. spans.wider (omega arith) (e.width _ (y-width W w));
           least = omega (arith, e.least 13 (omega (arith, least)));
           most = omega (arith, e.most 2 (omega (arith, most)));
@@ -100,7 +100,7 @@ gas-impulse-spec =
     (tie.spec
     (λ c κs. scales c.requires _ (omega arith))
     (λ c κs. squares c.before.requires)
-    (λ c κs. square-scales c.before.before.requires c.product.ensures _ (omega arith))
+    (λ c κs. square_scales c.before.before.requires c.product.ensures _ (omega arith))
     (λ c κs. let m = c.before in starts m.before.before.requires m.before.ten-thousandths.ensures refl)
     (λ c κs. let m = c.before.before in rest m.before.before.requires m.before.ten-thousandths.ensures m.product.ensures c.before.ten-thousandths2.ensures c.sub.ensures refl refl)
     (λ c κs. let t = c.before.before in let m = t.before in exponent m.before.before.requires m.before.ten-thousandths.ensures m.product.ensures t.ten-thousandths2.ensures c.before.sub.ensures refl refl c.sub2.ensures)

@@ -8,35 +8,35 @@ use Rattle.span.specs.Enclosing as spans
 use Rattle.fixed.specs.declared.Log.{Log}
 use Rattle.fixed.specs.Logs.{Narrow, Small}
 use Rattle.fixed.specs.Promises.{Summands, LogSum, LogDifference, LogProduct, Scaled}
-use Rattle.fixed.specs.Enclosing.{constant-encloses, sum-encloses, difference-encloses, product-encloses, scaled-encloses, ratio-value, wider, larger}
+use Rattle.fixed.specs.Enclosing.{constant_encloses, sum_encloses, difference_encloses, product_encloses, scaled_encloses, ratio_value, wider, larger}
 use Rattle.enclosure.specs.Promises.{Exponent, Exponential}
-use Rattle.enclosure.specs.Enclosing.{expo-encloses}
-use Rattle.guidance.specs.Waves.{hundredths, gasPressure}
-use Rattle.waves.specs.Coefficients.{pressureStart, pressure-start}
+use Rattle.enclosure.specs.Enclosing.{expo_encloses}
+use Rattle.guidance.specs.Waves.{hundredths, gas_pressure}
+use Rattle.waves.specs.Coefficients.{pressure_start, pressure_start_lem}
 use Rattle.waves.specs.Gas.{Near, GasPressure}
-use Rattle.waves.proofs.Exponents.{pressure-most, pressure-least, upper-point, upper-most, upper-least, scales, squares, square-small, square-scales, square-width}
+use Rattle.waves.proofs.Exponents.{pressure_most, pressure_least, upper_point, upper_most, upper_least, scales, squares, square_small, square_scales, square_width}
 use Rattle.waves.proofs.gas_pressure.Statement.{statement}
 use Rattle.waves.proofs.gas_pressure.Tie as tie
 
-start_small : Small pressureStart (2 * 2 ^ 30)
+start_small : Small pressure_start (2 * 2 ^ 30)
 start_small = record { lo-up = omega arith; lo-dn = omega arith; hi-up = omega arith; hi-dn = omega arith }
 
-starts : {l first : Log} {i : ℕ} → Near l → Scaled i 10000 l first → i ≡ 16600 → Summands pressureStart first
+starts : {l first : Log} {i : ℕ} → Near l → Scaled i 10000 l first → i ≡ 16600 → Summands pressure_start first
 starts x f i =
     record {
-      left = pressure-start.ordered;
+      left = pressure_start_lem.ordered;
       right = f.ordered;
       small-left = larger (omega arith) start_small;
       small-right = larger (omega arith) (f.small (5 * 2 ^ 30) (9 * 2 ^ 30) x.logged.small (omega arith));
     }
 
 module _ {l first square second start : Log} {i j : ℕ} (x : Near l) (f : Scaled i 10000 l first) (p : LogProduct l l square)
-    (q : Scaled j 10000 square second) (d : LogDifference pressureStart first start) (first-factor : i ≡ 16600) (second-factor : j ≡ 2600) where
+    (q : Scaled j 10000 square second) (d : LogDifference pressure_start first start) (first-factor : i ≡ 16600) (second-factor : j ≡ 2600) where
   first_small : Small first (9 * 2 ^ 30)
   first_small = f.small (5 * 2 ^ 30) (9 * 2 ^ 30) x.logged.small (omega arith)
 
   second-small : Small second (7 * 2 ^ 30)
-  second-small = q.small (26 * 2 ^ 30) (7 * 2 ^ 30) (square-small x.logged p) (omega arith)
+  second-small = q.small (26 * 2 ^ 30) (7 * 2 ^ 30) (square_small x.logged p) (omega arith)
 
   both_small : Small start (11 * 2 ^ 30)
   both_small = larger (omega arith) (d.small _ _ start_small first_small)
@@ -53,35 +53,35 @@ module _ {l first square second start : Log} {i j : ℕ} (x : Near l) (f : Scale
     y-width W w =
         wider (omega arith)
         (a.width _ _
-        (d.width _ _ pressure-start.width (f.width W (2 * W) w (omega (arith, ap (λ (k : ℕ). W * k) first-factor))))
-        (q.width _ (3 * W + 22) (square-width x.logged p W w) (omega (arith, ap (λ (k : ℕ). W * k) second-factor))))
+        (d.width _ _ pressure_start_lem.width (f.width W (2 * W) w (omega (arith, ap (λ (k : ℕ). W * k) first-factor))))
+        (q.width _ (3 * W + 22) (square_width x.logged p W w) (omega (arith, ap (λ (k : ℕ). W * k) second-factor))))
 
     exponent : Exponent y
     exponent =
         record {
           ordered = a.ordered;
           narrow = wider (omega arith) (y-width _ x.logged.narrow);
-          least = omega (arith, y-small.lo-dn);
-          most = omega (arith, y-small.hi-up);
+          least = omega (arith, y-small.lo_dn);
+          most = omega (arith, y-small.hi_up);
         }
 
     result : {s : Span} → Exponential y s → GasPressure l s
-    unfolding gasPressure
+    unfolding gas_pressure
     result e =
-        let in-l = upper-point x.logged.ordered in
+        let in-l = upper_point x.logged.ordered in
         let at =
         a.holds _ _
-        (d.holds _ _ pressure-start.holds (f.holds _ _ (ratio-value (hundredths 166) i 10000 (omega arith)) in-l))
-        (q.holds _ _ (ratio-value (hundredths 26) j 10000 (omega arith)) (p.holds _ _ in-l in-l)) in
-        let most = upper-most 12 5 (omega arith) at (pressure-most l.hi x.logged.small.hi-up (omega (arith, x.near)) _) (y-width _ x.logged.narrow) in
-        let least = upper-least y 10 1 (omega arith) at (pressure-least l.hi x.logged.small.hi-up _) in
+        (d.holds _ _ pressure_start_lem.holds (f.holds _ _ (ratio_value (hundredths 166) i 10000 (omega arith)) in-l))
+        (q.holds _ _ (ratio_value (hundredths 26) j 10000 (omega arith)) (p.holds _ _ in-l in-l)) in
+        let most = upper_most 12 5 (omega arith) at (pressure_most l.hi x.logged.small.hi_up (omega (arith, x.near)) _) (y-width _ x.logged.narrow) in
+        let least = upper_least y 10 1 (omega arith) at (pressure_least l.hi x.logged.small.hi_up _) in
         record {
           normal = e.normal;
           encloses = λ z n enough h.
-              expo-encloses e enough
-              (sum-encloses a
-              (difference-encloses d (constant-encloses pressure-start n) (scaled-encloses f (ratio-value (hundredths 166) i 10000 (omega arith)) h))
-              (scaled-encloses q (ratio-value (hundredths 26) j 10000 (omega arith)) (product-encloses p h h)));
+              expo_encloses e enough
+              (sum_encloses a
+              (difference_encloses d (constant_encloses pressure_start_lem n) (scaled_encloses f (ratio_value (hundredths 166) i 10000 (omega arith)) h))
+              (scaled_encloses q (ratio_value (hundredths 26) j 10000 (omega arith)) (product_encloses p h h)));
           width = λ W w. spans.wider (omega arith) (e.width _ (y-width W w));
           least = omega (arith, e.least 15 (omega (arith, least)));
           most = omega (arith, e.most 4 (omega (arith, most)));
@@ -100,7 +100,7 @@ gas-pressure-spec =
     (tie.spec
     (λ c κs. scales c.requires.logged _ (omega arith))
     (λ c κs. squares c.before.requires.logged)
-    (λ c κs. square-scales c.before.before.requires.logged c.product.ensures _ (omega arith))
+    (λ c κs. square_scales c.before.before.requires.logged c.product.ensures _ (omega arith))
     (λ c κs. let m = c.before in starts m.before.before.requires m.before.ten-thousandths.ensures refl)
     (λ c κs. let m = c.before.before in adds m.before.before.requires m.before.ten-thousandths.ensures m.product.ensures c.before.ten-thousandths2.ensures c.sub.ensures refl refl)
     (λ c κs. let t = c.before.before in let m = t.before in exponent m.before.before.requires m.before.ten-thousandths.ensures m.product.ensures t.ten-thousandths2.ensures c.before.sub.ensures refl refl c.add.ensures)

@@ -8,9 +8,9 @@ use borrow.Author.Tests.{eq-eqb, ne_eqb}
 use Rattle.exact.specs.Fraction.{whole}
 use Rattle.span.specs.declared.Span.{Span}
 use Rattle.span.specs.Constants.{Between, coefficient}
-use Rattle.span.specs.Enclosing.{constant-encloses, wider}
-use Rattle.guidance.specs.Waves.{number, rangeEnd}
-use Rattle.waves.specs.EndBounds.{constant-lower, lower-coarser}
+use Rattle.span.specs.Enclosing.{constant_encloses, wider}
+use Rattle.guidance.specs.Waves.{number, range_end}
+use Rattle.waves.specs.EndBounds.{constant_lower, lower_coarser}
 use Rattle.waves.specs.Fronts.{Front}
 use Rattle.waves.proofs.Choices.{picked, passed}
 use Rattle.waves.proofs.range_end.Statement.{statement}
@@ -22,30 +22,30 @@ unfolding whole
 given m k j b l u =
     let c = coefficient (whole m) _ _ k j b in
     record {
-      encloses = λ n h. constant-encloses c n;
+      encloses = λ n h. constant_encloses c n;
       width = wider (omega arith) c.width;
       speed =
           record {
             normal = c.normal;
             narrow = wider (omega arith) c.width;
             least = omega (arith, c.exponent);
-            most = lower-coarser (constant-lower (whole m) c) (omega arith) (omega arith);
+            most = lower_coarser (constant_lower (whole m) c) (omega arith) (omega arith);
           };
     }
 
 module _ (range : ℕ) where
-  range2 : range ≡ 2 → rangeEnd range ≡ 500
-  unfolding rangeEnd
+  range2 : range ≡ 2 → range_end range ≡ 500
+  unfolding range_end
   range2 h = picked (eqb range 2) 500 _ (eq-eqb range 2 h)
 
-  not2 : (range ≡ 2 → ⊥) → rangeEnd range ≡ cond (eqb range 3) 300 200
-  unfolding rangeEnd
+  not2 : (range ≡ 2 → ⊥) → range_end range ≡ cond (eqb range 3) 300 200
+  unfolding range_end
   not2 h = passed (eqb range 2) 500 _ (ne_eqb range 2 h)
 
-  range3 : (range ≡ 2 → ⊥) → range ≡ 3 → rangeEnd range ≡ 300
+  range3 : (range ≡ 2 → ⊥) → range ≡ 3 → range_end range ≡ 300
   range3 h k = not2 h ∙ picked (eqb range 3) 300 200 (eq-eqb range 3 k)
 
-  not3 : (range ≡ 2 → ⊥) → (range ≡ 3 → ⊥) → rangeEnd range ≡ 200
+  not3 : (range ≡ 2 → ⊥) → (range ≡ 3 → ⊥) → range_end range ≡ 200
   not3 h k = not2 h ∙ passed (eqb range 3) 300 200 (ne_eqb range 3 k)
 
 is : {m n : ℕ} {v : Span} → n ≡ m → Front (number (whole m)) v → Front (number (whole n)) v

@@ -4,20 +4,20 @@ use Prim.Native.Nat.{ℕ, ◌*◌, ◌≤◌}
 use mathlib.Core.Path.{◌≡◌, refl}
 use mathlib.Core.Option.{some}
 use native.Mathlib.Omega.{arith}
-use Rattle.exact.specs.Fraction.{Ratio, whole, ◌⊕◌, ◌⊗◌, ◌⊖◌, power, ofRatio}
-use Rattle.exact.specs.Series.{oneOver}
-use Rattle.exact.specs.Formula.{bracketAt}
+use Rattle.exact.specs.Fraction.{Ratio, whole, ◌⊕◌, ◌⊗◌, ◌⊖◌, power, of_ratio}
+use Rattle.exact.specs.Series.{one_over}
+use Rattle.exact.specs.Formula.{bracket_at}
 use Rattle.exact.specs.laws.Containment.{Inside}
 use Rattle.exact.specs.laws.Points.{pair}
 use Rattle.exact.specs.laws.Width.{half}
 use Rattle.span.specs.declared.Span.{Span}
 use Rattle.span.specs.Spans.{fraction, FractionOf}
-use Rattle.span.specs.Enclosing.{Encloses, fraction-encloses, wider}
+use Rattle.span.specs.Enclosing.{Encloses, fraction_encloses, wider}
 use Rattle.enclosure.specs.Promises.{enough, Powerable, SixthPower}
-use Rattle.enclosure.specs.PowerWindows.{Reached, Bounded, power-between}
+use Rattle.enclosure.specs.PowerWindows.{Reached, Bounded, power_between}
 use Rattle.guidance.specs.Clouds.{over}
 use Rattle.guidance.specs.Waves.{number, raised, sixth, tenths, kilograms}
-use Rattle.waves.specs.EndBounds.{enclosed-lower, enclosed-upper, exponent-least-of}
+use Rattle.waves.specs.EndBounds.{enclosed_lower, enclosed_upper, exponent_least_of}
 use Rattle.waves.specs.Fronts.{Mass, SixthRoot}
 use Rattle.waves.proofs.sixth_root.Statement.{statement}
 use Rattle.waves.proofs.sixth_root.Tie as tie
@@ -37,7 +37,7 @@ module _ {mass : ℕ} (x : Mass mass) where
       }
 
   bounded : Bounded sixth (kilograms mass) 10 (tenths 3) (whole 10) quarter (whole 11)
-  unfolding quarter half oneOver power whole ◌⊕◌ ◌⊖◌ ◌⊗◌
+  unfolding quarter half one_over power whole ◌⊕◌ ◌⊖◌ ◌⊗◌
   bounded =
       record {
         from = record { cross = omega (arith, x.least) };
@@ -46,8 +46,8 @@ module _ {mass : ℕ} (x : Mass mass) where
         upper = record { cross = omega arith };
       }
 
-  between : Inside (bracketAt (raised sixth (number (kilograms mass))) enough) (some (pair (ofRatio quarter) (ofRatio (whole 11))))
-  between = power-between 10 (omega arith) reached bounded enough (omega arith)
+  between : Inside (bracket_at (raised sixth (number (kilograms mass))) enough) (some (pair (of_ratio quarter) (of_ratio (whole 11))))
+  between = power_between 10 (omega arith) reached bounded enough (omega arith)
 
   module _ {m : Span} (f : FractionOf mass 1000 m) where
     powerable : (p : ℕ) → p ≤ 6 → Powerable m p
@@ -63,20 +63,20 @@ module _ {mass : ℕ} (x : Mass mass) where
     -- p sixths are one
     module _ {p : ℕ} {v : Span} (one : 1 * 6 ≡ p * 6) (e : SixthPower m p v) where
       encloses : (n : ℕ) → enough ≤ n → Encloses v (raised sixth (number (kilograms mass))) n
-      unfolding ofRatio fraction
-      encloses n h = e.encloses sixth one _ n h (fraction-encloses f (kilograms mass).positive n)
+      unfolding of_ratio fraction
+      encloses n h = e.encloses sixth one _ n h (fraction_encloses f (kilograms mass).positive n)
 
       result : SixthRoot mass v
       unfolding whole quarter
       result =
-          let up = enclosed-upper quarter (whole 11) (encloses enough (omega arith)) between in
-          let far = exponent-least-of e.normal up (omega arith) 2 (omega arith) in
+          let up = enclosed_upper quarter (whole 11) (encloses enough (omega arith)) between in
+          let far = exponent_least_of e.normal up (omega arith) 2 (omega arith) in
           record {
             normal = e.normal;
             encloses = encloses;
             width = e.width 8 5 f.width (omega arith) (omega (arith, one));
             least = omega (arith, far);
-            most = enclosed-lower quarter (whole 11) (encloses enough (omega arith)) between;
+            most = enclosed_lower quarter (whole 11) (encloses enough (omega arith)) between;
           }
 
 fraction-requires : tie.Need-fraction-requires
@@ -86,7 +86,7 @@ sixth-power-requires : tie.Need-sixth-power-requires
 sixth-power-requires c κs = powerable c.before.requires c.fraction.ensures _ (omega arith)
 
 returns : tie.Need-returns
-returns c = let m = c.before in result m.before.requires m.fraction.ensures refl c.sixth-power.ensures
+returns c = let m = c.before in result m.before.requires m.fraction.ensures refl c.sixth_power.ensures
 
 pub sixth-root-spec : {M : Type 1} → statement M
 sixth-root-spec = tie.close (tie.spec fraction-requires sixth-power-requires returns)

@@ -4,32 +4,32 @@ use Rattle.std.proofs.Common.{sym, ap, subst, ◌∙◌, arith, ltb-false}
 use Rattle.std.proofs.Math.Option.{Option, none, some}
 use Rattle.std.proofs.lemmas.List.Edits.{sets}
 use Rattle.std.proofs.Math.Seq.{take-append_seam}
-use Rattle.bytes.specs.laws.Storing.{at-start}
+use Rattle.bytes.specs.laws.Storing.{at_start}
 use Rattle.guidance.specs.declared.Case.{Case}
 use Rattle.refusals.specs.declared.Fault.{Fault}
 use Rattle.refusals.specs.Order.{Test, first_of}
 use Rattle.limits.specs.declared.Checked.{Checked}
 use Rattle.limits.specs.declared.Checked.TheVariants.{Sound, Unsound}
-use Rattle.limits.specs.Checks.{checkedBy}
+use Rattle.limits.specs.Checks.{checked_by}
 use Rattle.writable.specs.declared.Refusal.TheVariants.{Space}
 use Rattle.writable.specs.declared.Verdict.{Verdict}
 use Rattle.writable.specs.declared.Verdict.TheVariants.{Accepted, Refused}
-use Rattle.writable.specs.Verdicts.{writableVerdict}
-use Rattle.writable.specs.Writing.{withText, Writes}
-use Rattle.writable.specs.Steps.{placed, neededFor, Written}
-use Rattle.writable.specs.laws.Verdicts.{space-last, accepted}
+use Rattle.writable.specs.Verdicts.{writable_verdict}
+use Rattle.writable.specs.Writing.{with_text, Writes}
+use Rattle.writable.specs.Steps.{placed, needed_for, Written}
+use Rattle.writable.specs.laws.Verdicts.{space_last, accepted}
 
 -- what is needed decides by the case alone
-pub needed-alike : (o : Option Fault) (c : Case) (f g : Case → ℕ) (room : ℕ) → f c ≡ g c → placed (checkedBy o c) f room ≡ placed (checkedBy o c) g room
-needed-alike none c f g room e = ap (λ (n : ℕ). cond (ltb room n) (Refused Space) (Accepted c)) e
-needed-alike (some q) c f g room e = refl
+pub needed_alike : (o : Option Fault) (c : Case) (f g : Case → ℕ) (room : ℕ) → f c ≡ g c → placed (checked_by o c) f room ≡ placed (checked_by o c) g room
+needed_alike none c f g room e = ap (λ (n : ℕ). cond (ltb room n) (Refused Space) (Accepted c)) e
+needed_alike (some q) c f g room e = refl
 
 -- what `place` gave for the bytes that are needed, u, is what the text asks for
-module _ (text : Case → List ℕ) (s : Checked) {needed : ℕ} (enough : needed ≡ neededFor text s) where
+module _ (text : Case → List ℕ) (s : Checked) {needed : ℕ} (enough : needed ≡ needed_for text s) where
   by_length : (room : ℕ) → placed s (λ (c : Case). needed) room ≡ placed s (λ (c : Case). length (text c)) room
   by_length room = go s enough
     where
-      go : (t : Checked) → needed ≡ neededFor text t → placed t (λ (c : Case). needed) room ≡ placed t (λ (c : Case). length (text c)) room
+      go : (t : Checked) → needed ≡ needed_for text t → placed t (λ (c : Case). needed) room ≡ placed t (λ (c : Case). length (text c)) room
       go (Sound c) e = ap (λ (n : ℕ). cond (ltb room n) (Refused Space) (Accepted c)) e
       go (Unsound f) e = refl
 
@@ -47,18 +47,18 @@ module _ (text : Case → List ℕ) (s : Checked) {needed : ℕ} (enough : neede
   pub told : (before : List ℕ) {u v : Verdict} {after : List ℕ}
       → u ≡ placed s (λ (c : Case). needed) (length before)
       → u ≡ v
-      → after ≡ withText text v before
+      → after ≡ with_text text v before
       → Written text s before v after
   told before p e a = record { verdict = sym e ∙ p ∙ by_length (length before); area = a }
 
 pub writes : {text : Case → List ℕ} (tests : List (Test Fault)) (c : Case) {s : Checked} {before after : List ℕ} {v : Verdict}
-    → s ≡ checkedBy (first_of tests) c
+    → s ≡ checked_by (first_of tests) c
     → Written text s before v after
-    → Writes text (writableVerdict text tests c (length before)) before v after
-unfolding writableVerdict
+    → Writes text (writable_verdict text tests c (length before)) before v after
+unfolding writable_verdict
 writes {text} tests c {before = before} e w =
     let needed : Case → ℕ = λ d. length (text d) in
-    record { verdict = w.verdict ∙ ap (λ (k : Checked). placed k needed (length before)) e ∙ space-last tests needed (length before) c; area = w.area }
+    record { verdict = w.verdict ∙ ap (λ (k : Checked). placed k needed (length before)) e ∙ space_last tests needed (length before) c; area = w.area }
 
 -- an accepted case is the one that was given, passed its own tests, and stands at the start of the area
 pub record Placed (text : Case → List ℕ) (tests : List (Test Fault)) (c d : Case) (after : List ℕ) : Type 0 where
@@ -66,11 +66,11 @@ pub record Placed (text : Case → List ℕ) (tests : List (Test Fault)) (c d : 
   pub sound : first_of tests ≡ none
   pub start : take (length (text c)) after ≡ text c
 
-pub placed-text : {text : Case → List ℕ} (tests : List (Test Fault)) (c : Case) {d : Case} {before after : List ℕ}
-    → Writes text (writableVerdict text tests c (length before)) before (Accepted d) after
+pub placed_text : {text : Case → List ℕ} (tests : List (Test Fault)) (c : Case) {d : Case} {before after : List ℕ}
+    → Writes text (writable_verdict text tests c (length before)) before (Accepted d) after
     → Placed text tests c d after
-unfolding writableVerdict
-placed-text {text} tests c {d} {before} {after} w =
+unfolding writable_verdict
+placed_text {text} tests c {d} {before} {after} w =
     let a = accepted tests (length (text c)) (length before) c (sym w.verdict) in
-    let all : after ≡ text c ++ drop (length (text c)) before = w.area ∙ ap (λ (k : Case). sets before 0 (text k)) a.0 ∙ at-start before (text c) a.2 in
+    let all : after ≡ text c ++ drop (length (text c)) before = w.area ∙ ap (λ (k : Case). sets before 0 (text k)) a.0 ∙ at_start before (text c) a.2 in
     record { same = a.0; sound = a.1; start = ap (take (length (text c))) all ∙ take-append_seam (text c) (drop (length (text c)) before) }

@@ -7,37 +7,37 @@ use lib.ListN.{length, replicate, length-replicate}
 use lib.Seq.{sets}
 use borrow.Author.Rules.{rules}
 use Rattle.guidance.specs.declared.Case.{Case}
-use Rattle.bytes.specs.laws.Storing.{sets-all}
-use Rattle.hexadecimals.specs.Written.{digitsOf}
+use Rattle.bytes.specs.laws.Storing.{sets_all}
+use Rattle.hexadecimals.specs.Written.{digits_of}
 use Rattle.hexadecimals.specs.laws.Writing.{length_digits}
-use Rattle.fields.specs.Bytes.{frameBytes}
-use Rattle.fields.specs.laws.Back.{standard-length, other_length}
-use Rattle.writing.specs.Spelling.{asSpelled, spelling}
+use Rattle.fields.specs.Bytes.{frame_bytes}
+use Rattle.fields.specs.laws.Back.{standard_length, other_length}
+use Rattle.writing.specs.Spelling.{as_spelled, spelling}
 use Rattle.writing.proofs.put_spelling.Statement.{statement}
 use Rattle.writing.proofs.put_spelling.Tie as tie
 
 -- the frame of d, c as it is spelled, fills an array of its length
-module _ (c d : Case) (n : ℕ) {full : List ℕ} (long : length (frameBytes d) ≡ n) (stored : full ≡ sets (replicate n 0) 0 (frameBytes d)) (is : d ≡ asSpelled c) where
-  filled : full ≡ frameBytes (asSpelled c)
-  filled = stored ∙ sets-all (replicate n 0) (frameBytes d) (long ∙ sym (length-replicate n 0)) ∙ ap frameBytes is
+module _ (c d : Case) (n : ℕ) {full : List ℕ} (long : length (frame_bytes d) ≡ n) (stored : full ≡ sets (replicate n 0) 0 (frame_bytes d)) (is : d ≡ as_spelled c) where
+  filled : full ≡ frame_bytes (as_spelled c)
+  filled = stored ∙ sets_all (replicate n 0) (frame_bytes d) (long ∙ sym (length-replicate n 0)) ∙ ap frame_bytes is
 
-  spelled : digitsOf full ≡ spelling c
+  spelled : digits_of full ≡ spelling c
   unfolding spelling
-  spelled = ap digitsOf filled
+  spelled = ap digits_of filled
 
   room : (area : List ℕ) → length (spelling c) ≤ length area → 2 * length full ≤ length area
   unfolding spelling
-  room area h = omega (arith, ap length filled, length_digits (frameBytes (asSpelled c)), h)
+  room area h = omega (arith, ap length filled, length_digits (frame_bytes (as_spelled c)), h)
 
 write-requires : tie.Need-write-requires
-write-requires c κs = omega (arith, standard-length c.before.before.before.as-spelled.result c.before.if1.true)
+write-requires c κs = omega (arith, standard_length c.before.before.before.as-spelled.result c.before.if1.true)
 
 write-requires-2 : tie.Need-write-requires-2
 write-requires-2 c κs =
     let w = c.before.before.before in
     let chosen = w.before.before in
     let s = chosen.before.before.before.before in
-    room _ _ 22 (standard-length _ chosen.if1.true) w.write.ensures chosen.before.before.as-spelled.ensures s.args.area.now s.requires
+    room _ _ 22 (standard_length _ chosen.if1.true) w.write.ensures chosen.before.before.as-spelled.ensures s.args.area.now s.requires
 
 write-requires-3 : tie.Need-write-requires-3
 write-requires-3 c κs = omega (arith, other_length c.before.before.before.as-spelled.result c.before.if1.false)
@@ -56,7 +56,7 @@ returns c =
     let chosen = w.before.before in
     let s = chosen.before.before.before.before in
     digits.write2.ensures
-    ∙ ap (sets s.args.area.now 0) (spelled _ _ 22 (standard-length _ chosen.if1.true) w.write.ensures chosen.before.before.as-spelled.ensures)
+    ∙ ap (sets s.args.area.now 0) (spelled _ _ 22 (standard_length _ chosen.if1.true) w.write.ensures chosen.before.before.as-spelled.ensures)
 
 returns-2 : tie.Need-returns-2
 returns-2 c =

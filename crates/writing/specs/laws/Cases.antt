@@ -4,13 +4,13 @@ use Rattle.std.proofs.Common.{sym, ◌∙◌, arith}
 use Rattle.guidance.specs.declared.Case.{Case}
 use Rattle.guidance.specs.Substances.{heat_of}
 use Rattle.guidance.specs.CloudWords.{Heated}
-use Rattle.writing.specs.Spelling.{spelledHeat, asSpelled, Agree}
-use Rattle.writing.specs.laws.Heats.{by-heat, keeps-heat, no-greater, settled}
+use Rattle.writing.specs.Spelling.{spelled_heat, as_spelled, Agree}
+use Rattle.writing.specs.laws.Heats.{by_heat, keeps_heat, no_greater, settled}
 
 -- it passes tests 3 to 6 where the case does
-pub spelled-heated : {c : Case} → Heated c → Heated (asSpelled c)
-unfolding asSpelled
-spelled-heated {c} h =
+pub spelled_heated : {c : Case} → Heated c → Heated (as_spelled c)
+unfolding as_spelled
+spelled_heated {c} h =
     let f = h.fields in
     record {
       fields =
@@ -19,27 +19,27 @@ spelled-heated {c} h =
             state = f.state;
             placement = f.placement;
             surroundings = f.surroundings;
-            surroundings-most = f.surroundings-most;
+            surroundings_most = f.surroundings_most;
             mass = f.mass;
-            mass-most = f.mass-most;
+            mass_most = f.mass_most;
             mean = f.mean;
-            mean-most = f.mean-most;
+            mean_most = f.mean_most;
             stoichiometric = f.stoichiometric;
-            stoichiometric-most = f.stoichiometric-most;
-            heat-most = omega (arith, no-greater c.substance c.heat, f.heat-most);
+            stoichiometric_most = f.stoichiometric_most;
+            heat_most = omega (arith, no_greater c.substance c.heat, f.heat_most);
             distance = f.distance;
             distance_most = f.distance_most;
             body = f.body;
-            body-most = f.body-most;
+            body_most = f.body_most;
             air = f.air;
-            air-most = f.air-most;
+            air_most = f.air_most;
           };
-      heat = omega (arith, keeps-heat c.substance c.heat, h.heat);
+      heat = omega (arith, keeps_heat c.substance c.heat, h.heat);
     }
 
-pub spelled-again : (c : Case) → asSpelled (asSpelled c) ≡ asSpelled c
-unfolding asSpelled
-spelled-again c =
+pub spelled_again : (c : Case) → as_spelled (as_spelled c) ≡ as_spelled c
+unfolding as_spelled
+spelled_again c =
     λ k. record {
       substance = c.substance;
       state = c.state;
@@ -54,11 +54,11 @@ spelled-again c =
       air = c.air;
     }
 
-pub agree-spelled : {c d : Case} → Agree c d → asSpelled c ≡ asSpelled d
-unfolding asSpelled
-agree-spelled {c} {d} a =
-    let heat : spelledHeat c.substance c.heat ≡ spelledHeat d.substance d.heat
-    = by-heat c.substance c.heat ∙ (λ k. spelledHeat (a.substance k) (a.heat k)) ∙ sym (by-heat d.substance d.heat) in
+pub agree_spelled : {c d : Case} → Agree c d → as_spelled c ≡ as_spelled d
+unfolding as_spelled
+agree_spelled {c} {d} a =
+    let heat : spelled_heat c.substance c.heat ≡ spelled_heat d.substance d.heat
+    = by_heat c.substance c.heat ∙ (λ k. spelled_heat (a.substance k) (a.heat k)) ∙ sym (by_heat d.substance d.heat) in
     λ k. record {
       substance = a.substance k;
       state = a.state k;
@@ -73,9 +73,9 @@ agree-spelled {c} {d} a =
       air = a.air k;
     }
 
-pub spelled-agree : {c d : Case} → asSpelled c ≡ asSpelled d → Agree c d
-unfolding asSpelled
-spelled-agree {c} {d} e =
+pub spelled_agree : {c d : Case} → as_spelled c ≡ as_spelled d → Agree c d
+unfolding as_spelled
+spelled_agree {c} {d} e =
     record {
       substance = λ k. (e k).substance;
       state = λ k. (e k).state;
@@ -84,7 +84,7 @@ spelled-agree {c} {d} e =
       mass = λ k. (e k).mass;
       mean = λ k. (e k).mean;
       stoichiometric = λ k. (e k).stoichiometric;
-      heat = sym (keeps-heat c.substance c.heat) ∙ (λ k. heat_of (e k).substance (e k).heat) ∙ keeps-heat d.substance d.heat;
+      heat = sym (keeps_heat c.substance c.heat) ∙ (λ k. heat_of (e k).substance (e k).heat) ∙ keeps_heat d.substance d.heat;
       distance = λ k. (e k).distance;
       body = λ k. (e k).body;
       air = λ k. (e k).air;

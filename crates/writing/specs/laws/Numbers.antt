@@ -4,22 +4,22 @@ use Rattle.guidance.specs.declared.Case.{Case}
 use Rattle.refusals.specs.declared.Fault.TheVariants.{Length, Digit}
 use Rattle.refusals.specs.Order.{held}
 use Rattle.fields.specs.Bytes.{fields_of}
-use Rattle.limits.specs.Tests.{valueTests, fieldTests}
-use Rattle.frame.specs.Tests.{frameTests}
+use Rattle.limits.specs.Tests.{value_tests, field_tests}
+use Rattle.frame.specs.Tests.{frame_tests}
 use Rattle.writable.specs.declared.Refusal.TheVariants.{Faulty}
 use Rattle.writable.specs.declared.Verdict.TheVariants.{Refused}
-use Rattle.writable.specs.Verdicts.{writableTests, writableVerdict}
-use Rattle.writable.specs.laws.Verdicts.{not-refused}
-use Rattle.writing.specs.Entries.{fieldsVerdict, frameVerdict}
+use Rattle.writable.specs.Verdicts.{writable_tests, writable_verdict}
+use Rattle.writable.specs.laws.Verdicts.{not_refused}
+use Rattle.writing.specs.Entries.{fields_verdict, frame_verdict}
 
-pub fields-no-length : (c : Case) (room : ℕ) → fieldsVerdict c room ≡ Refused (Faulty Length) → ⊥
-unfolding writableVerdict writableTests held fieldTests valueTests
-fields-no-length c room h = not-refused (Faulty Length) _ c refl h
+pub fields_no_length : (c : Case) (room : ℕ) → fields_verdict c room ≡ Refused (Faulty Length) → ⊥
+unfolding writable_verdict writable_tests held field_tests value_tests
+fields_no_length c room h = not_refused (Faulty Length) _ c refl h
 
-pub fields-no-digit : (c : Case) (room : ℕ) → fieldsVerdict c room ≡ Refused (Faulty Digit) → ⊥
-unfolding writableVerdict writableTests held fieldTests valueTests
-fields-no-digit c room h = not-refused (Faulty Digit) _ c refl h
+pub fields_no_digit : (c : Case) (room : ℕ) → fields_verdict c room ≡ Refused (Faulty Digit) → ⊥
+unfolding writable_verdict writable_tests held field_tests value_tests
+fields_no_digit c room h = not_refused (Faulty Digit) _ c refl h
 
-pub frame-no-digit : (frame : List ℕ) (room : ℕ) → frameVerdict frame room ≡ Refused (Faulty Digit) → ⊥
-unfolding writableVerdict writableTests held frameTests fieldTests valueTests
-frame-no-digit frame room h = not-refused (Faulty Digit) _ (fields_of frame) refl h
+pub frame_no_digit : (frame : List ℕ) (room : ℕ) → frame_verdict frame room ≡ Refused (Faulty Digit) → ⊥
+unfolding writable_verdict writable_tests held frame_tests field_tests value_tests
+frame_no_digit frame room h = not_refused (Faulty Digit) _ (fields_of frame) refl h

@@ -3,17 +3,17 @@ use mathlib.Core.Path.{◌≡◌, ap, ◌∙◌}
 use Prim.Native.Nat.{suc, ◌*◌, ◌^◌, ◌<◌}
 use native.Mathlib.Omega.{arith}
 use lib.IntN.{ℤ, pos, negsuc, ◌-ℤ◌}
-use Rattle.signed.specs.Reading.{R, step, Read, as-pos, as-neg}
+use Rattle.signed.specs.Reading.{R, step, Read, as_pos, as_neg}
 use Rattle.enclosure.proofs.Differences.{opposite}
-use Rattle.enclosure.proofs.ExpSigns.{at-positive}
+use Rattle.enclosure.proofs.ExpSigns.{at_positive}
 use Rattle.enclosure.proofs.exponential.point.Statement.{statement}
 use Rattle.enclosure.proofs.exponential.point.Tie as tie
 
 above : (c : tie.Then1) → Read pos c.before.args.y
-above c = as-pos _ c.before.ranges.y.sfits c.if1.true
+above c = as_pos _ c.before.ranges.y.sfits c.if1.true
 
 below : (c : tie.Else1) → Read negsuc c.before.args.y
-below c = as-neg _ c.before.ranges.y.sfits c.if1.false
+below c = as_neg _ c.before.ranges.y.sfits c.if1.false
 
 small : (c : tie.Then1) → (above c).a < 512 * 2 ^ 30
 small c = let p = rw (above c).same at c.before.requires in p.0
@@ -48,7 +48,7 @@ returns : tie.Need-returns
 returns c =
     let x = above c.before in
     let p = rw x.read at c.positive.ensures in
-    rw x.same (at-positive x.a 0 x.a (omega arith) (small c.before) p)
+    rw x.same (at_positive x.a 0 x.a (omega arith) (small c.before) p)
 
 returns-2 : tie.Need-returns-2
 returns-2 c = let p = rw (turned-back c.before) at c.negative.ensures in rw (below c.before).same p

@@ -2,7 +2,7 @@
 use mathlib.Core.Path.{refl}
 use native.Mathlib.Omega.{arith}
 use borrow.Author.Rules.{rules}
-use Rattle.enclosure.proofs.ExpProducts.{product-in, all_digits}
+use Rattle.enclosure.proofs.ExpProducts.{product_in, all_digits_lem}
 use Rattle.enclosure.proofs.exponential.positive.Statement.{statement}
 use Rattle.enclosure.proofs.exponential.positive.Tie as tie
 
@@ -17,8 +17,8 @@ mul-requires c κs = search rules
 
 returns : tie.Need-returns
 returns c =
-    product-in 11303 24 1739 c.mul.ensures c.before.before.whole_part.ensures c.before.part.ensures
-    (all_digits _ _ _ (omega arith)) (omega arith) refl (omega arith)
+    product_in 11303 24 1739 c.mul.ensures c.before.before.whole_part.ensures c.before.part.ensures
+    (all_digits_lem _ _ _ (omega arith)) (omega arith) refl (omega arith)
 
 pub positive-spec : {M : Type 1} → statement M
 positive-spec = tie.close (tie.spec whole-part-requires part-requires mul-requires returns)

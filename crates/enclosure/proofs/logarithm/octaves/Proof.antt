@@ -2,10 +2,10 @@
 use native.Mathlib.Omega.{arith}
 use lib.Dec.{lit≤}
 use Rattle.exact.specs.Fraction.{whole, ◌⊕◌, ◌⊗◌, power, sum}
-use Rattle.exact.specs.Series.{seriesLower, lnTerm, even, third, oneOver}
+use Rattle.exact.specs.Series.{series_lower, ln_term, even, third, one_over}
 use Rattle.exact.specs.laws.Width.{ninth}
 use borrow.Author.Rules.{rules}
-use Rattle.enclosure.proofs.LnPoint.{octaves-of}
+use Rattle.enclosure.proofs.LnPoint.{octaves_of}
 use Rattle.enclosure.proofs.logarithm.octaves.Statement.{statement}
 use Rattle.enclosure.proofs.logarithm.octaves.Tie as tie
 
@@ -19,8 +19,8 @@ add-result : tie.Need-overflow-add-result
 add-result c = search rules
 
 returns : tie.Need-returns
-unfolding seriesLower sum lnTerm power even third ninth oneOver whole ◌⊕◌ ◌⊗◌
-returns c = octaves-of _ _ _ _ _ (search rules) (omega arith) (record { low = record { bound = lit≤ tt }; high = record { bound = lit≤ tt } }) c.odd-series.ensures
+unfolding series_lower sum ln_term power even third ninth one_over whole ◌⊕◌ ◌⊗◌
+returns c = octaves_of _ _ _ _ _ (search rules) (omega arith) (record { low = record { bound = lit≤ tt }; high = record { bound = lit≤ tt } }) c.odd-series.ensures
 
 pub octaves-spec : {M : Type 1} → statement M
 octaves-spec = tie.close (tie.spec odd-series-requires mul-x add-result returns)

@@ -4,7 +4,7 @@ use Prim.Native.Nat.{suc, ◌+◌, ◌-◌, ◌*◌}
 use native.Mathlib.Nat.{div-le_self}
 use native.Mathlib.Omega.{arith}
 use borrow.Author.Rules.{rules}
-use Rattle.enclosure.proofs.OddSeries.{S, At, now, squares, product_small, last-small, first, again, finish}
+use Rattle.enclosure.proofs.OddSeries.{S, At, now, squares, product_small, last_small, first, again, finish}
 use Rattle.enclosure.proofs.logarithm.odd_series.Statement.{statement}
 use Rattle.enclosure.proofs.logarithm.odd_series.Tie as tie
 
@@ -32,7 +32,7 @@ sub-j c = search rules
 mul-h : tie.Need-overflow-mul-h invariant-loop decreases-loop
 mul-h c =
     let i = now c.before.loop.invariant in
-    omega (arith, product_small _ _ i.v-fits i.h_fits)
+    omega (arith, product_small _ _ i.v_fits i.h_fits)
 
 mul-h-2 : tie.Need-overflow-mul-h-2 invariant-loop decreases-loop
 mul-h-2 c = omega (arith, (now c.before.loop.invariant).within)
@@ -46,7 +46,7 @@ div-h c = search rules
 add-h-2 : tie.Need-overflow-add-h-2 invariant-loop decreases-loop
 add-h-2 c =
     let i = now c.before.loop.invariant in
-    omega (arith, product_small _ _ i.v-fits i.h_fits, div-le_self S (2 * (c.before.loop.j - 1) + 1))
+    omega (arith, product_small _ _ i.v_fits i.h_fits, div-le_self S (2 * (c.before.loop.j - 1) + 1))
 
 loop-less : tie.Need-loop-smaller invariant-loop decreases-loop
 loop-less c = search rules
@@ -60,7 +60,7 @@ loop-again c =
 mul-result : tie.Need-overflow-mul-result invariant-loop decreases-loop
 mul-result c =
     let i = now c.before.loop.invariant in
-    omega (arith, last-small _ _ i.w_fits i.h_fits)
+    omega (arith, last_small _ _ i.w_fits i.h_fits)
 
 returns : tie.Need-returns invariant-loop decreases-loop
 returns c =

@@ -1,7 +1,7 @@
 -- `enclosure::logarithm::point` meets its contract. Assumes nothing.
 use native.Mathlib.Omega.{arith}
 use borrow.Author.Rules.{rules}
-use Rattle.enclosure.proofs.LnPoint.{side-most, sides-fit, sides-small, both-sides}
+use Rattle.enclosure.proofs.LnPoint.{side_most, sides_fit, sides_small, both_sides}
 use Rattle.enclosure.proofs.logarithm.point.Statement.{statement}
 use Rattle.enclosure.proofs.logarithm.point.Tie as tie
 
@@ -21,14 +21,14 @@ side-requires-2 : tie.Need-side-requires-2
 side-requires-2 c κs = search rules
 
 add-octaves : tie.Need-overflow-add-octaves
-add-octaves c = omega (arith, side-most c.side2.ensures, c.before.before.before.requires.most)
+add-octaves c = omega (arith, side_most c.side2.ensures, c.before.before.before.requires.most)
 
 octaves-requires : tie.Need-octaves-requires
-octaves-requires c κs = sides-fit c.before.before.before.requires c.before.before.octave-of.ensures c.before.side.ensures c.side2.ensures
+octaves-requires c κs = sides_fit c.before.before.before.requires c.before.before.octave-of.ensures c.before.side.ensures c.side2.ensures
 
 sub-side-3 : tie.Need-overflow-sub-side-3
 sub-side-3 c =
-    sides-small c.before.before.before.before.requires c.before.before.before.octave-of.ensures c.before.before.side.ensures c.before.side2.ensures c.octaves.ensures
+    sides_small c.before.before.before.before.requires c.before.before.before.octave-of.ensures c.before.before.side.ensures c.before.side2.ensures c.octaves.ensures
 
 add-side : tie.Need-overflow-add-side
 add-side c = omega (arith, sub-side-3 c)
@@ -42,7 +42,7 @@ side-requires-3 c κs = search rules
 returns : tie.Need-returns
 returns c =
     let s = c.before.before.before.before.before in
-    both-sides s.requires c.before.before.before.before.octave-of.ensures c.before.before.before.side.ensures
+    both_sides s.requires c.before.before.before.before.octave-of.ensures c.before.before.before.side.ensures
     c.before.before.side2.ensures c.before.octaves.ensures c.side3.ensures
 
 pub point-spec : {M : Type 1} → statement M

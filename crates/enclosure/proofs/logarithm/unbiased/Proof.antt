@@ -9,9 +9,9 @@ use mir.Val.{to_z}
 use mir.ValLaws.{to_z_pos}
 use borrow.Author.Rules.{rules}
 use Rattle.enclosure.specs.LogSteps.{Unbiased}
-use Rattle.fixed.specs.SignedLaws.{minus-parts}
+use Rattle.fixed.specs.SignedLaws.{minus_parts}
 use Rattle.signed.specs.Reading.{step}
-use Rattle.enclosure.proofs.LnInterval.{unbiased-fits}
+use Rattle.enclosure.proofs.LnInterval.{unbiased_fits}
 use Rattle.enclosure.proofs.logarithm.unbiased.Statement.{statement}
 use Rattle.enclosure.proofs.logarithm.unbiased.Tie as tie
 
@@ -20,10 +20,10 @@ module _ (x : ℕ) (h : x < 2 ^ 41) where
   read = ap (λ (z : ℤ). z -ℤ pos 1099511627776) (to_z_pos w64 x (omega arith))
 
   parts : Unbiased x (pos x -ℤ pos 1099511627776)
-  parts = record { parts = omega (arith, minus-parts (pos x) (pos 1099511627776)) }
+  parts = record { parts = omega (arith, minus_parts (pos x) (pos 1099511627776)) }
 
   fits : mag (pos x -ℤ pos 1099511627776) < 2 ^ 63
-  fits = unbiased-fits (pos x -ℤ pos 1099511627776) parts h
+  fits = unbiased_fits (pos x -ℤ pos 1099511627776) parts h
 
 cast-y : tie.Need-overflow-cast-y
 cast-y c = search rules

@@ -1,17 +1,17 @@
 -- `enclosure::tables::ones` meets its contract: each arm is the list's entry. Assumes nothing.
 use native.Mathlib.Omega.{arith}
-use Rattle.enclosure.specs.ExpTables.{oneTable}
+use Rattle.enclosure.specs.ExpTables.{one_table}
 use Rattle.enclosure.proofs.Matches.{last}
 use Rattle.enclosure.proofs.tables.ones.Statement.{statement}
 use Rattle.enclosure.proofs.tables.ones.Tie as tie
 
 -- the default: the digit is past all the others
 returns-16 : tie.Need-returns-16
-unfolding oneTable
+unfolding one_table
 returns-16 c = rw (last 15 c.before.before.args.d c.before.match.rest (omega arith)) c.entry16.ensures
 
 pub ones-spec : {M : Type 1} → statement M
-unfolding oneTable
+unfolding one_table
 ones-spec =
     tie.close
     (tie.spec

@@ -1,17 +1,17 @@
 -- `enclosure::tables::sixteens` meets its contract: each arm is the list's entry. Assumes nothing.
 use native.Mathlib.Omega.{arith}
-use Rattle.enclosure.specs.ExpTables.{sixteenTable}
+use Rattle.enclosure.specs.ExpTables.{sixteen_table}
 use Rattle.enclosure.proofs.Matches.{last}
 use Rattle.enclosure.proofs.tables.sixteens.Statement.{statement}
 use Rattle.enclosure.proofs.tables.sixteens.Tie as tie
 
 -- the default: the digit is past all the others
 returns-32 : tie.Need-returns-32
-unfolding sixteenTable
+unfolding sixteen_table
 returns-32 c = rw (last 31 c.before.before.args.d c.before.match.rest (omega arith)) c.entry32.ensures
 
 pub sixteens-spec : {M : Type 1} → statement M
-unfolding sixteenTable
+unfolding sixteen_table
 sixteens-spec =
     tie.close
     (tie.spec

@@ -1,17 +1,17 @@
 -- `enclosure::tables::sixteenths` meets its contract: each arm is the list's entry. Assumes nothing.
 use native.Mathlib.Omega.{arith}
-use Rattle.enclosure.specs.ExpTables.{sixteenthTable}
+use Rattle.enclosure.specs.ExpTables.{sixteenth_table}
 use Rattle.enclosure.proofs.Matches.{last}
 use Rattle.enclosure.proofs.tables.sixteenths.Statement.{statement}
 use Rattle.enclosure.proofs.tables.sixteenths.Tie as tie
 
 -- the default: the digit is past all the others
 returns-16 : tie.Need-returns-16
-unfolding sixteenthTable
+unfolding sixteenth_table
 returns-16 c = rw (last 15 c.before.before.args.d c.before.match.rest (omega arith)) c.entry16.ensures
 
 pub sixteenths-spec : {M : Type 1} → statement M
-unfolding sixteenthTable
+unfolding sixteenth_table
 sixteenths-spec =
     tie.close
     (tie.spec

@@ -1,17 +1,17 @@
 -- `enclosure::tables::small` meets its contract: each arm is the list's entry. Assumes nothing.
 use native.Mathlib.Omega.{arith}
-use Rattle.enclosure.specs.ExpTables.{smallTable}
+use Rattle.enclosure.specs.ExpTables.{small_table}
 use Rattle.enclosure.proofs.Matches.{last}
 use Rattle.enclosure.proofs.tables.small.Statement.{statement}
 use Rattle.enclosure.proofs.tables.small.Tie as tie
 
 -- the default: the digit is past all the others
 returns-16 : tie.Need-returns-16
-unfolding smallTable
+unfolding small_table
 returns-16 c = rw (last 15 c.before.before.args.d c.before.match.rest (omega arith)) c.entry16.ensures
 
 pub small_spec : {M : Type 1} → statement M
-unfolding smallTable
+unfolding small_table
 small_spec =
     tie.close
     (tie.spec

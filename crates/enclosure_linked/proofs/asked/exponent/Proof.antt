@@ -9,7 +9,7 @@ use Rattle.signed.specs.TwoParts.{up, dn}
 use Rattle.signed.specs.Reading.{R, back, step}
 use Rattle.signed.specs.Magnitude.{size}
 use Rattle.signed.specs.Comparisons.{less, not-less, at_most, above}
-use Rattle.fixed.specs.SignedLaws.{least, minus-parts}
+use Rattle.fixed.specs.SignedLaws.{least, minus_parts}
 use Rattle.enclosure_linked.proofs.asked.exponent.Statement.{statement}
 use Rattle.enclosure_linked.proofs.asked.exponent.Tie as tie
 
@@ -47,17 +47,17 @@ within c =
 module _ {lo hi : ℤ} (w : Within lo hi) where
   apart_fits : mag (hi -ℤ lo) < 2 ^ 63
   apart_fits =
-      let p = least (hi -ℤ lo) (minus-parts hi lo) in
+      let p = least (hi -ℤ lo) (minus_parts hi lo) in
       size (hi -ℤ lo) (omega (arith, p.0, w.from, w.to)) (omega (arith, p.1, w.from, w.to, w.ordered))
 
   apart-read : R (R hi -ℤ R lo) ≡ hi -ℤ lo
   apart-read = step {e = R hi -ℤ R lo} (rw (w.lo-read, w.hi-read)) apart_fits
 
   wide : lt_z (pos (2 ^ 28)) (R (R hi -ℤ R lo)) ≡ true → up lo + dn hi + 2 ^ 28 < up hi + dn lo
-  wide t = omega (arith, less (pos (2 ^ 28)) (hi -ℤ lo) (rw apart-read at t), minus-parts hi lo)
+  wide t = omega (arith, less (pos (2 ^ 28)) (hi -ℤ lo) (rw apart-read at t), minus_parts hi lo)
 
   narrow : lt_z (pos (2 ^ 28)) (R (R hi -ℤ R lo)) ≡ false → up hi + dn lo ≤ up lo + dn hi + 2 ^ 28
-  narrow t = omega (arith, not-less (pos (2 ^ 28)) (hi -ℤ lo) (rw apart-read at t), minus-parts hi lo)
+  narrow t = omega (arith, not-less (pos (2 ^ 28)) (hi -ℤ lo) (rw apart-read at t), minus_parts hi lo)
 
 returns : tie.Need-returns
 returns c n =

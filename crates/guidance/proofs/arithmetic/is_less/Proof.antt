@@ -1,6 +1,6 @@
 -- `guidance::arithmetic::is_less` meets its contract. Assumes nothing.
 use borrow.Author.Rules.{rules}
-use Rattle.guidance.proofs.Products.{high-less, high-more, low-less}
+use Rattle.guidance.proofs.Products.{high_less, high_more, low_less}
 use Rattle.guidance.proofs.arithmetic.is_less.Statement.{statement}
 use Rattle.guidance.proofs.arithmetic.is_less.Tie as tie
 
@@ -14,19 +14,19 @@ returns : tie.Need-returns
 returns c =
     let p = c.before.before.before.before.product in
     let q = c.before.before.before.product2 in
-    high-less p.result.hi p.result.lo q.result.hi q.result.lo p.ensures q.ensures (search rules) c.if1.true
+    high_less p.result.hi p.result.lo q.result.hi q.result.lo p.ensures q.ensures (search rules) c.if1.true
 
 returns-2 : tie.Need-returns-2
 returns-2 c =
     let p = c.before.before.before.before.before.before.before.product in
     let q = c.before.before.before.before.before.before.product2 in
-    high-more p.result.hi p.result.lo q.result.hi q.result.lo p.ensures q.ensures (search rules) c.if2.true
+    high_more p.result.hi p.result.lo q.result.hi q.result.lo p.ensures q.ensures (search rules) c.if2.true
 
 returns-3 : tie.Need-returns-3
 returns-3 c =
     let p = c.before.before.before.before.before.before.before.before.before.product in
     let q = c.before.before.before.before.before.before.before.before.product2 in
-    low-less p.result.hi p.result.lo q.result.hi q.result.lo p.ensures q.ensures (search rules) (search rules)
+    low_less p.result.hi p.result.lo q.result.hi q.result.lo p.ensures q.ensures (search rules) (search rules)
 
 pub is-less-spec : {M : Type 1} → statement M
 is-less-spec = tie.close (tie.spec product-requires product-requires-2 returns returns-2 returns-3)

@@ -2,7 +2,7 @@
 use Prim.Native.Nat.{◌/◌, ◌%◌}
 use native.Mathlib.Omega.{arith}
 use borrow.Author.Rules.{rules}
-use Rattle.guidance.proofs.Products.{half_product, product_is, mid-most, next-most, carry-most, high-most}
+use Rattle.guidance.proofs.Products.{half_product, product_is, mid_most, next_most, carry_most, high_most}
 use Rattle.guidance.proofs.arithmetic.product.Statement.{statement}
 use Rattle.guidance.proofs.arithmetic.product.Tie as tie
 
@@ -13,22 +13,22 @@ mul-mid : tie.Need-overflow-mul-mid
 mul-mid c = omega (arith, half_product {x = c.args.a / 4294967296} {y = c.args.b % 4294967296} (omega arith) (omega arith))
 
 add-mid : tie.Need-overflow-add-mid
-add-mid c = record { fits = mid-most c.args.a c.args.b c.ranges.a.fits c.ranges.b.fits }
+add-mid c = record { fits = mid_most c.args.a c.args.b c.ranges.a.fits c.ranges.b.fits }
 
 mul_next : tie.Need-overflow-mul-next
 mul_next c = omega (arith, half_product {x = c.args.a % 4294967296} {y = c.args.b / 4294967296} (omega arith) (omega arith))
 
 add-next : tie.Need-overflow-add-next
-add-next c = record { fits = next-most c.args.a c.args.b c.ranges.a.fits c.ranges.b.fits }
+add-next c = record { fits = next_most c.args.a c.args.b c.ranges.a.fits c.ranges.b.fits }
 
 mul-hi : tie.Need-overflow-mul-hi
 mul-hi c = omega (arith, half_product {x = c.args.a / 4294967296} {y = c.args.b / 4294967296} (omega arith) (omega arith))
 
 add-hi : tie.Need-overflow-add-hi
-add-hi c = record { fits = carry-most c.args.a c.args.b c.ranges.a.fits c.ranges.b.fits }
+add-hi c = record { fits = carry_most c.args.a c.args.b c.ranges.a.fits c.ranges.b.fits }
 
 add-hi-2 : tie.Need-overflow-add-hi-2
-add-hi-2 c = record { fits = high-most c.args.a c.args.b c.ranges.a.fits c.ranges.b.fits }
+add-hi-2 c = record { fits = high_most c.args.a c.args.b c.ranges.a.fits c.ranges.b.fits }
 
 mul-lo : tie.Need-overflow-mul-lo
 mul-lo c = search rules

@@ -1,6 +1,6 @@
 -- `guidance::ranges::range_at` meets its contract: the array is the definition's table. Assumes nothing.
 use borrow.Author.Rules.{rules}
-use Rattle.guidance.specs.Ranges.{ranges, rangeAt}
+use Rattle.guidance.specs.Ranges.{ranges, range_at}
 use Rattle.guidance.proofs.ranges.range_at.Statement.{statement}
 use Rattle.guidance.proofs.ranges.range_at.Tie as tie
 
@@ -26,7 +26,7 @@ widened-requires : tie.Need-widened-requires
 widened-requires c κs = search rules
 
 returns : tie.Need-returns
-unfolding ranges rangeAt
+unfolding ranges range_at
 returns c = c.widened.ensures.0
 
 pub range-at-spec : {M : Type 1} → statement M

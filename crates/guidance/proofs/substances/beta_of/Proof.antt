@@ -2,7 +2,7 @@
 use mathlib.Core.Path.{sym}
 use borrow.Author.Rules.{rules}
 use lib.ListN.{get_or-eq_default}
-use Rattle.guidance.specs.Substances.{betas, betaOf}
+use Rattle.guidance.specs.Substances.{betas, beta_of}
 use Rattle.guidance.proofs.substances.beta_of.Statement.{statement}
 use Rattle.guidance.proofs.substances.beta_of.Tie as tie
 
@@ -16,11 +16,11 @@ widened-requires : tie.Need-widened-requires
 widened-requires c κs = search rules
 
 returns : tie.Need-returns
-unfolding betas betaOf
+unfolding betas beta_of
 returns c = c.widened.ensures.0
 
 returns-2 : tie.Need-returns-2
-unfolding betas betaOf
+unfolding betas beta_of
 returns-2 c = sym (get_or-eq_default betas 0 c.if1.false)
 
 pub beta-of-spec : {M : Type 1} → statement M

@@ -6,7 +6,7 @@ use borrow.Author.Tests.{not-true, not-false}
 use mathlib.Core.Path.{◌∙◌, sym}
 use mathlib.Core.Logic.{⊎_elim}
 use Rattle.places.specs.laws.Contents.{unmapped}
-use Rattle.places.proofs.Closes.{Closing, close-first, close-hole, close-case, close-last}
+use Rattle.places.proofs.Closes.{Closing, close_first, close_hole, close_case, close_last}
 use Rattle.places.proofs.Places.close.Statement.{statement}
 use Rattle.places.proofs.Places.close.Tie as tie
 
@@ -20,7 +20,7 @@ empty-requires : tie.Need-empty-requires invariant-loop decreases-loop
 empty-requires c κs = tt
 
 loop-holds : tie.Need-loop-init invariant-loop decreases-loop
-loop-holds c = close-first _ _ (search (rules, unmapped)) (search (rules, unmapped)) c.empty.ensures
+loop-holds c = close_first _ _ (search (rules, unmapped)) (search (rules, unmapped)) c.empty.ensures
 
 mul-held : tie.Need-overflow-mul-held invariant-loop decreases-loop
 mul-held c = omega arith
@@ -51,12 +51,12 @@ loop-again c = let turn = c.before.before.before.before in
     let inside = c.before.before.before.loop-test.true in
     let hole = sym c.before.is-hole.ensures in
     ⊎_elim
-    (λ w. rw (w.1, w.2) (close-case turn.loop.invariant inside _ (hole ∙ not-true _ w.0.taken)))
-    (λ w. rw (w.1, w.2) (close-hole turn.loop.invariant inside _ (hole ∙ not-false _ w.0.left)))
+    (λ w. rw (w.1, w.2) (close_case turn.loop.invariant inside _ (hole ∙ not-true _ w.0.taken)))
+    (λ w. rw (w.1, w.2) (close_hole turn.loop.invariant inside _ (hole ∙ not-false _ w.0.left)))
     c.if1.branch
 
 returns : tie.Need-returns invariant-loop decreases-loop
-returns c = close-last c.before.loop.invariant c.loop-test.false
+returns c = close_last c.before.loop.invariant c.loop-test.false
 
 pub close_spec : {M : Type 1} → statement M
 close_spec =

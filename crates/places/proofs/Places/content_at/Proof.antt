@@ -3,7 +3,7 @@ use mathlib.Core.Path.{sym}
 use native.Mathlib.Omega.{arith}
 use borrow.Author.Rules.{rules}
 use Rattle.places.specs.Holes.{at}
-use Rattle.places.specs.laws.Contents.{unmapped, at-outside, at-inside}
+use Rattle.places.specs.laws.Contents.{unmapped, at_outside, at_inside}
 use Rattle.places.proofs.Places.content_at.Statement.{statement}
 use Rattle.places.proofs.Places.content_at.Tie as tie
 
@@ -12,7 +12,7 @@ unfolding at
 returns c = rw c.if1.true
 
 returns-2 : tie.Need-returns-2
-returns-2 c = sym (at-outside _ (search (rules, unmapped)) _ c.if2.true)
+returns-2 c = sym (at_outside _ (search (rules, unmapped)) _ c.if2.true)
 
 sub-p : tie.Need-overflow-sub-p
 sub-p c = search rules
@@ -24,7 +24,7 @@ element-copy-out-p : tie.Need-element-copy-out-p
 element-copy-out-p c = search rules
 
 returns-3 : tie.Need-returns-3
-returns-3 c = sym (at-inside _ (search (rules, unmapped)) _ _ (omega arith) (omega arith))
+returns-3 c = sym (at_inside _ (search (rules, unmapped)) _ _ (omega arith) (omega arith))
 
 pub content-at-spec : {M : Type 1} → statement M
 content-at-spec = tie.close (tie.spec returns returns-2 sub-p mul-p element-copy-out-p returns-3)

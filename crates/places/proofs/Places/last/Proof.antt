@@ -6,7 +6,7 @@ use borrow.Author.Tests.{not-true, not-false}
 use mathlib.Core.Path.{◌∙◌, sym}
 use mathlib.Core.Logic.{⊎_elim}
 use Rattle.places.specs.laws.Contents.{unmapped}
-use Rattle.places.proofs.Scans.{Scanned, scan-first, scan-hole, scan-case, scan-last}
+use Rattle.places.proofs.Scans.{Scanned, scan_first, scan_hole, scan_case, scan_last}
 use Rattle.places.proofs.Places.last.Statement.{statement}
 use Rattle.places.proofs.Places.last.Tie as tie
 
@@ -17,7 +17,7 @@ abbrev decreases-loop : tie.decreases-loop
 decreases-loop self last₀ i₀ last i = 64 - i
 
 loop-holds : tie.Need-loop-init invariant-loop decreases-loop
-loop-holds c = scan-first _ (search (rules, unmapped))
+loop-holds c = scan_first _ (search (rules, unmapped))
 
 mul-p : tie.Need-overflow-mul-p invariant-loop decreases-loop
 mul-p c = omega arith
@@ -43,12 +43,12 @@ loop-again c =
     let inside = c.before.before.before.loop-test.true in
     let hole = sym c.before.is-hole.ensures in
     ⊎_elim
-    (λ w. rw w.1 (scan-case turn.loop.invariant inside _ (hole ∙ not-true _ w.0.taken)))
-    (λ w. rw w.1 (scan-hole turn.loop.invariant inside _ (hole ∙ not-false _ w.0.left)))
+    (λ w. rw w.1 (scan_case turn.loop.invariant inside _ (hole ∙ not-true _ w.0.taken)))
+    (λ w. rw w.1 (scan_hole turn.loop.invariant inside _ (hole ∙ not-false _ w.0.left)))
     c.if1.branch
 
 returns : tie.Need-returns invariant-loop decreases-loop
-returns c = scan-last c.before.loop.invariant c.loop-test.false
+returns c = scan_last c.before.loop.invariant c.loop-test.false
 
 pub last-spec : {M : Type 1} → statement M
 last-spec =

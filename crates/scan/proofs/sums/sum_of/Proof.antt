@@ -1,7 +1,7 @@
 -- `scan::sums::sum_of` meets its contract: the sum so far goes on over what is left. Assumes nothing.
 use Rattle.std.proofs.Common.{◌-◌, ◌<◌, length, rules}
 use Rattle.scan.specs.Sums.{prime, next, sum_of}
-use Rattle.scan.proofs.Folds.{Folded, fold-first, fold-again, fold-last}
+use Rattle.scan.proofs.Folds.{Folded, fold_first, fold_again, fold_last}
 use Rattle.scan.proofs.sums.sum_of.Statement.{statement}
 use Rattle.scan.proofs.sums.sum_of.Tie as tie
 
@@ -12,7 +12,7 @@ abbrev decreases-loop : tie.decreases-loop
 decreases-loop text sum₀ at₀ sum at = length text - at
 
 loop-holds : tie.Need-loop-init invariant-loop decreases-loop
-loop-holds c = (fold-first next _, search rules)
+loop-holds c = (fold_first next _, search rules)
 
 shared-slice-read-with-byte : tie.Need-shared-slice-read-with-byte invariant-loop decreases-loop
 shared-slice-read-with-byte c = search rules
@@ -29,11 +29,11 @@ loop-less c = search rules
 loop-again : tie.Need-loop-preserved invariant-loop decreases-loop
 loop-again c =
     let e = c.with_byte.ensures in
-    (fold-again c.before.before.before.loop.invariant.0 c.before.before.loop-test.true e.0, e.1)
+    (fold_again c.before.before.before.loop.invariant.0 c.before.before.loop-test.true e.0, e.1)
 
 returns : tie.Need-returns invariant-loop decreases-loop
 unfolding sum_of
-returns c = fold-last c.before.loop.invariant.0 c.loop-test.false
+returns c = fold_last c.before.loop.invariant.0 c.loop-test.false
 
 pub sum-of-spec : {M : Type 1} → statement M
 sum-of-spec =

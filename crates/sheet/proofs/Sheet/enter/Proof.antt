@@ -1,6 +1,6 @@
 -- `sheet::Sheet::enter` meets its contract: what tests 1 to 6 found stands. Assumes nothing.
 use mathlib.Core.Path.{refl}
-use Rattle.sheet.specs.laws.Entering.{enters-refused}
+use Rattle.sheet.specs.laws.Entering.{enters_refused}
 use borrow.Author.Rules.{rules}
 use Rattle.sheet.proofs.Sheet.enter.Statement.{statement}
 use Rattle.sheet.proofs.Sheet.enter.Tie as tie
@@ -21,7 +21,7 @@ returns : tie.Need-returns
 returns c = rw c.before.before.s.given.1 c.place.ensures
 
 returns-2 : tie.Need-returns-2
-returns-2 c = rw c.before.before.s2.given.1 (enters-refused _ _ _ _ c.refused.ensures refl)
+returns-2 c = rw c.before.before.s2.given.1 (enters_refused _ _ _ _ c.refused.ensures refl)
 
 pub enter_spec : {M : Type 1} → statement M
 enter_spec =

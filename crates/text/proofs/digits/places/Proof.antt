@@ -5,7 +5,7 @@ use borrow.Author.Rules.{rules}
 use native.Mathlib.Omega.{arith}
 use lib.ListN.{length}
 use Rattle.text.specs.Digits.{decimal}
-use Rattle.text.proofs.Decimals.{length_more, length-one}
+use Rattle.text.proofs.Decimals.{length_more, length_one}
 use Rattle.text.proofs.digits.places.Statement.{statement}
 use Rattle.text.proofs.digits.places.Tie as tie
 
@@ -28,7 +28,7 @@ loop-again : tie.Need-loop-preserved invariant-loop decreases-loop
 loop-again c = (omega arith, omega (arith, length_more c.loop-test.true))
 
 returns : tie.Need-returns invariant-loop decreases-loop
-returns c = omega (arith, length-one c.loop-test.false)
+returns c = omega (arith, length_one c.loop-test.false)
 
 pub places-spec : {M : Type 1} → statement M
 places-spec = tie.close (tie.spec invariant-loop decreases-loop loop-holds add-k loop-less loop-again returns)

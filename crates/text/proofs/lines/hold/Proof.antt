@@ -2,7 +2,7 @@
 use Prim.Native.Nat.{◌-◌}
 use mathlib.Core.Path.{refl}
 use native.Mathlib.Omega.{arith}
-use Rattle.text.proofs.Holds.{Holding, hold-first, hold-again, hold-last}
+use Rattle.text.proofs.Holds.{Holding, hold_first, hold_again, hold_last}
 use Rattle.text.proofs.lines.hold.Statement.{statement}
 use Rattle.text.proofs.lines.hold.Tie as tie
 
@@ -21,7 +21,7 @@ least-requires c κs = tt
 loop-holds : tie.Need-loop-init invariant-loop decreases-loop
 loop-holds c =
     let start = c.before.before.before in
-    hold-first start.args.s.line start.args.chars.now start.args.s.held c.least.result (omega arith) (omega arith)
+    hold_first start.args.s.line start.args.chars.now start.args.s.held c.least.result (omega arith) (omega arith)
 
 shared-slice-read-line : tie.Need-shared-slice-read-line invariant-loop decreases-loop
 shared-slice-read-line c = omega arith
@@ -39,7 +39,7 @@ loop-less : tie.Need-loop-smaller invariant-loop decreases-loop
 loop-less c = omega arith
 
 loop-again : tie.Need-loop-preserved invariant-loop decreases-loop
-loop-again c = hold-again c.before.before.loop.invariant c.before.loop-test.true
+loop-again c = hold_again c.before.before.loop.invariant c.before.loop-test.true
 
 add-t7 : tie.Need-overflow-add-t7 invariant-loop decreases-loop
 add-t7 c = omega arith
@@ -49,7 +49,7 @@ returns c =
     record {
       sound = record { size = omega arith; within = omega arith };
       lines = refl;
-      line = hold-last c.before.loop.invariant c.loop-test.false c.before.before.before.before.before.requires.within c.before.before.least.ensures;
+      line = hold_last c.before.loop.invariant c.loop-test.false c.before.before.before.before.before.requires.within c.before.before.least.ensures;
     }
 
 pub hold-spec : {M : Type 1} → statement M

@@ -2,7 +2,7 @@
 use Prim.Native.Nat.{◌-◌}
 use native.Mathlib.Omega.{arith}
 use lib.ListN.{length}
-use Rattle.text.proofs.Scans.{Scanned, scan-first, scan-again, scan-found, scan-last}
+use Rattle.text.proofs.Scans.{Scanned, scan_first, scan_again, scan_found, scan_last}
 use Rattle.text.proofs.lines.line_end.Statement.{statement}
 use Rattle.text.proofs.lines.line_end.Tie as tie
 
@@ -13,13 +13,13 @@ abbrev decreases-loop : tie.decreases-loop
 decreases-loop part i₀ i = length part - i
 
 loop-holds : tie.Need-loop-init invariant-loop decreases-loop
-loop-holds c = scan-first _
+loop-holds c = scan_first _
 
 shared-slice-read-if1 : tie.Need-shared-slice-read-if1 invariant-loop decreases-loop
 shared-slice-read-if1 c = omega arith
 
 returns : tie.Need-returns invariant-loop decreases-loop
-returns c = scan-found c.before.before.before.loop.invariant c.before.before.loop-test.true c.if1.true
+returns c = scan_found c.before.before.before.loop.invariant c.before.before.loop-test.true c.if1.true
 
 add-i : tie.Need-overflow-add-i invariant-loop decreases-loop
 add-i c = omega arith
@@ -28,10 +28,10 @@ loop-less : tie.Need-loop-smaller invariant-loop decreases-loop
 loop-less c = omega arith
 
 loop-again : tie.Need-loop-preserved invariant-loop decreases-loop
-loop-again c = scan-again c.before.before.before.loop.invariant c.before.before.loop-test.true c.if1.false
+loop-again c = scan_again c.before.before.before.loop.invariant c.before.before.loop-test.true c.if1.false
 
 returns-2 : tie.Need-returns-2 invariant-loop decreases-loop
-returns-2 c = scan-last c.before.loop.invariant c.loop-test.false
+returns-2 c = scan_last c.before.loop.invariant c.loop-test.false
 
 pub line-end-spec : {M : Type 1} → statement M
 line-end-spec =

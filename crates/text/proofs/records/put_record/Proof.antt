@@ -5,7 +5,7 @@ use native.Mathlib.Omega.{arith}
 use lib.ListN.{length, set, length-set}
 use borrow.Rule.Slice.PartMut.{put_mid, same_len_mid}
 use borrow.Author.Rules.{rules}
-use Rattle.text.specs.laws.Tails.{room-from}
+use Rattle.text.specs.laws.Tails.{room_from}
 use Rattle.text.proofs.Pieces.{printed}
 use Rattle.text.proofs.records.put_record.Statement.{statement}
 use Rattle.text.proofs.records.put_record.Tie as tie
@@ -54,7 +54,7 @@ put-said-requires c κs =
     record {
       frame = judged.from-line.auto.1.0;
       room =
-          room-from (d.result + 1) spaced 155
+          room_from (d.result + 1) spaced 155
           (omega (arith, length-set d.new.1.0 d.result 32, d.auto.1.0, d.ensures.short, judged.before.before.before.before.requires));
     }
 

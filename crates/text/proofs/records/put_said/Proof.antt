@@ -7,7 +7,7 @@ use lib.Dec.{lit≤}
 use borrow.Rule.Slice.PartMut.{same_len_mid}
 use borrow.Author.Rules.{rules}
 use Rattle.text.specs.Records.{said}
-use Rattle.text.proofs.Behind.{tagged, widened, room-behind}
+use Rattle.text.proofs.Behind.{tagged, widened, room_behind}
 use Rattle.text.proofs.records.put_said.Statement.{statement}
 use Rattle.text.proofs.records.put_said.Tie as tie
 
@@ -32,7 +32,7 @@ part-put-decimal-end c = search rules
 put-decimal-requires : tie.Need-put-decimal-requires
 put-decimal-requires c κs =
     let out = c.before.before.before.before.before.before.before.args.out.now in
-    room-behind 82 out 20 (omega arith)
+    room_behind 82 out 20 (omega arith)
 
 add-result : tie.Need-overflow-add-result
 add-result c = omega arith
@@ -55,7 +55,7 @@ part-put-hexadecimal-end c = search rules
 put-hexadecimal-requires : tie.Need-put-hexadecimal-requires
 put-hexadecimal-requires c κs =
     let start = c.before.before.before.before.before in
-    room-behind 65 start.args.out.now (2 * length start.args.answer.now) (omega arith)
+    room_behind 65 start.args.out.now (2 * length start.args.answer.now) (omega arith)
 
 add-result-2 : tie.Need-overflow-add-result-2
 add-result-2 c = omega arith

@@ -1,6 +1,6 @@
 -- `totals::Totals::after_adding` meets its contract. Assumes nothing.
 use borrow.Author.Tests.{lt-ltb, le-ltb}
-use Rattle.totals.specs.Keeping.{afterAdding}
+use Rattle.totals.specs.Keeping.{after_adding}
 use borrow.Author.Rules.{rules}
 use Rattle.totals.proofs.Totals.after_adding.Statement.{statement}
 use Rattle.totals.proofs.Totals.after_adding.Tie as tie
@@ -12,11 +12,11 @@ afresh-requires : tie.Need-afresh-requires
 afresh-requires c κs = search rules
 
 returns : tie.Need-returns
-unfolding afterAdding
+unfolding after_adding
 returns c = rw (lt-ltb _ _ c.before.if1.true) c.with-end.ensures
 
 returns-2 : tie.Need-returns-2
-unfolding afterAdding
+unfolding after_adding
 returns-2 c = rw (le-ltb _ _ c.before.if1.false) c.afresh.ensures
 
 pub after-adding-spec : {M : Type 1} → statement M

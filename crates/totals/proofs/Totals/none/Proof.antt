@@ -1,11 +1,11 @@
 -- `totals::Totals::none` meets its contract. Assumes nothing.
 use mathlib.Core.Path.{refl}
-use Rattle.totals.specs.Totals.{count, greatest, firstWith, totalsOf}
+use Rattle.totals.specs.Totals.{count, greatest, first_with, totals_of}
 use Rattle.totals.proofs.Totals.none.Statement.{statement}
 use Rattle.totals.proofs.Totals.none.Tie as tie
 
 returns : tie.Need-returns
-unfolding totalsOf count greatest firstWith
+unfolding totals_of count greatest first_with
 returns c = refl
 
 pub none_spec : {M : Type 1} → statement M

@@ -1,5 +1,5 @@
 -- `vectors::bounds::hold` meets its contract: its words are those of the definition. Assumes nothing.
-use Rattle.vectors.proofs.Texts.{held-is, held-not}
+use Rattle.vectors.proofs.Texts.{held_is, held_not}
 use borrow.Author.Rules.{rules}
 use Rattle.vectors.proofs.bounds.hold.Statement.{statement}
 use Rattle.vectors.proofs.bounds.hold.Tie as tie
@@ -19,12 +19,12 @@ hold-at-requires c κs = search rules
 returns : tie.Need-returns
 returns c =
     let w = c.before.before.before in
-    held-is _ w.before.before.next_word.ensures.0 w.before.next-word2.ensures.0 w.next-word3.ensures.0 _ _ c.before.if1.true c.hold_at.ensures
+    held_is _ w.before.before.next_word.ensures.0 w.before.next-word2.ensures.0 w.next-word3.ensures.0 _ _ c.before.if1.true c.hold_at.ensures
 
 returns-2 : tie.Need-returns-2
 returns-2 c =
     let w = c.before.before in
-    held-not _ w.before.before.next_word.ensures.0 w.before.next-word2.ensures.0 w.next-word3.ensures.0 _ _ c.if1.false
+    held_not _ w.before.before.next_word.ensures.0 w.before.next-word2.ensures.0 w.next-word3.ensures.0 _ _ c.if1.false
 
 pub hold-spec : {M : Type 1} → statement M
 hold-spec =

@@ -1,5 +1,5 @@
 -- `vectors::bounds::hold_at` meets its contract: its parts are those of the definition. Assumes nothing.
-use Rattle.vectors.proofs.Compound.{held-parts}
+use Rattle.vectors.proofs.Compound.{held_parts}
 use borrow.Author.Rules.{rules}
 use Rattle.vectors.proofs.bounds.hold_at.Statement.{statement}
 use Rattle.vectors.proofs.bounds.hold_at.Tie as tie
@@ -19,7 +19,7 @@ both-requires c κs = search rules
 returns : tie.Need-returns
 returns c =
     let b = c.before in
-    held-parts _ _ _ _ _ b.before.before.end-at.ensures.0 b.before.end-at2.ensures.0 b.is-between.ensures c.both.ensures
+    held_parts _ _ _ _ _ b.before.before.end-at.ensures.0 b.before.end-at2.ensures.0 b.is-between.ensures c.both.ensures
 
 pub hold-at-spec : {M : Type 1} → statement M
 hold-at-spec =

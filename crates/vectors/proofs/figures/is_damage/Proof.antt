@@ -1,5 +1,5 @@
 -- `vectors::figures::is_damage` meets its contract: its two tests are the definition's. Assumes nothing.
-use Rattle.vectors.proofs.Compound.{damage-is}
+use Rattle.vectors.proofs.Compound.{damage_is}
 use borrow.Author.Rules.{rules}
 use Rattle.vectors.proofs.figures.is_damage.Statement.{statement}
 use Rattle.vectors.proofs.figures.is_damage.Tie as tie
@@ -24,7 +24,7 @@ returns c =
     let h = c.before in
     let m = h.before in
     let l = m.before in
-    damage-is _ _ _ _ _ l.before.rank-at.ensures.0 l.tenths-at.ensures m.rank-at2.ensures.0 h.tenths-at2.ensures c.both.ensures
+    damage_is _ _ _ _ _ l.before.rank-at.ensures.0 l.tenths-at.ensures m.rank-at2.ensures.0 h.tenths-at2.ensures c.both.ensures
 
 pub is-damage-spec : {M : Type 1} → statement M
 is-damage-spec =

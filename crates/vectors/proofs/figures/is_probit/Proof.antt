@@ -1,6 +1,6 @@
 -- `vectors::figures::is_probit` meets its contract: both its tests are the definition's. Assumes nothing.
 use borrow.Author.Rules.{rules}
-use Rattle.vectors.specs.Figures.{probitRight}
+use Rattle.vectors.specs.Figures.{probit_right}
 use Rattle.vectors.proofs.figures.is_probit.Statement.{statement}
 use Rattle.vectors.proofs.figures.is_probit.Tie as tie
 
@@ -14,7 +14,7 @@ both-requires : tie.Need-both-requires
 both-requires c κs = search rules
 
 returns : tie.Need-returns
-unfolding probitRight
+unfolding probit_right
 returns c = cc
 
 pub is-probit-spec : {M : Type 1} → statement M

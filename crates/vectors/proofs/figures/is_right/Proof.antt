@@ -1,5 +1,5 @@
 -- `vectors::figures::is_right` meets its contract: a wave or a probit, by the words at its place. Assumes nothing.
-use Rattle.vectors.proofs.Compound.{right-wave, right-probit}
+use Rattle.vectors.proofs.Compound.{right_wave, right_probit}
 use borrow.Author.Rules.{rules}
 use Rattle.vectors.proofs.figures.is_right.Statement.{statement}
 use Rattle.vectors.proofs.figures.is_right.Tie as tie
@@ -7,7 +7,7 @@ use Rattle.vectors.proofs.figures.is_right.Tie as tie
 returns : tie.Need-returns
 returns c =
     let b = c.before in
-    right-wave _ _ _ _ _ b.before.before.before.four-at.ensures.0 b.before.four-at2.ensures.0 b.if1.true c.is-wave.ensures
+    right_wave _ _ _ _ _ b.before.before.before.four-at.ensures.0 b.before.four-at2.ensures.0 b.if1.true c.is-wave.ensures
 
 returns-2 : tie.Need-returns-2
 returns-2 c =
@@ -17,7 +17,7 @@ returns-2 c =
     let l = m.before in
     let s = l.before in
     let e = s.before.before.before.before in
-    right-probit _ _ _ _ _
+    right_probit _ _ _ _ _
     e.before.before.before.four-at.ensures.0 e.before.four-at2.ensures.0 e.if1.false
     s.before.before.two_at.ensures.0 s.two-at2.ensures.0 l.raised-word.ensures.0
     m.raised-word2.ensures.0 v.raised.ensures d.before.is-probit.ensures

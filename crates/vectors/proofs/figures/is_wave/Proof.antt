@@ -1,6 +1,6 @@
 -- `vectors::figures::is_wave` meets its contract: both its tests are the definition's. Assumes nothing.
 use borrow.Author.Rules.{rules}
-use Rattle.vectors.specs.Figures.{waveRight}
+use Rattle.vectors.specs.Figures.{wave_right}
 use Rattle.vectors.proofs.figures.is_wave.Statement.{statement}
 use Rattle.vectors.proofs.figures.is_wave.Tie as tie
 
@@ -14,7 +14,7 @@ both-requires : tie.Need-both-requires
 both-requires c κs = search rules
 
 returns : tie.Need-returns
-unfolding waveRight
+unfolding wave_right
 returns c = cc
 
 pub is-wave-spec : {M : Type 1} → statement M

@@ -1,5 +1,5 @@
 -- `vectors::figures::raised_word` meets its contract, by the sign. Assumes nothing.
-use Rattle.vectors.proofs.Raised.{word-above, word_below}
+use Rattle.vectors.proofs.Raised.{word_above, word_below}
 use native.Mathlib.Omega.{arith}
 use borrow.Author.Rules.{rules}
 use Rattle.vectors.proofs.figures.raised_word.Statement.{statement}
@@ -9,7 +9,7 @@ add-result : tie.Need-overflow-add-result
 add-result c = search rules
 
 returns : tie.Need-returns
-returns c = (word-above _ c.if1.true, omega arith)
+returns c = (word_above _ c.if1.true, omega arith)
 
 add-if2 : tie.Need-overflow-add-if2
 add-if2 c = search rules

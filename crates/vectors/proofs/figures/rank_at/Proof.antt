@@ -2,7 +2,7 @@
 use Prim.Native.Nat.{◌-◌}
 use mathlib.Core.Path.{sym, ◌∙◌}
 use borrow.Author.Tests.{not-true, not-false}
-use Rattle.vectors.proofs.Raised.{Ranked, rank-first, rank-again, rank-found, rank-last}
+use Rattle.vectors.proofs.Raised.{Ranked, rank_first, rank_again, rank_found, rank_last}
 use borrow.Author.Rules.{rules}
 use Rattle.vectors.proofs.figures.rank_at.Statement.{statement}
 use Rattle.vectors.proofs.figures.rank_at.Tie as tie
@@ -14,7 +14,7 @@ abbrev decreases-loop : tie.decreases-loop
 decreases-loop table probit n₀ n = 108 - n
 
 loop-holds : tie.Need-loop-init invariant-loop decreases-loop
-loop-holds c = rank-first _ _
+loop-holds c = rank_first _ _
 
 mul-is-reached : tie.Need-overflow-mul-is-reached invariant-loop decreases-loop
 mul-is-reached c = search rules
@@ -34,7 +34,7 @@ is-reached-requires c κs = search rules
 returns : tie.Need-returns invariant-loop decreases-loop
 returns c =
     let i = c.before.before.before.before.loop.invariant in
-    (rank-found i c.before.before.before.loop-test.true (sym c.before.is-reached.ensures ∙ not-true _ c.if1.true), i.within)
+    (rank_found i c.before.before.before.loop-test.true (sym c.before.is-reached.ensures ∙ not-true _ c.if1.true), i.within)
 
 add-n : tie.Need-overflow-add-n invariant-loop decreases-loop
 add-n c = search rules
@@ -45,10 +45,10 @@ loop-less c = search rules
 loop-again : tie.Need-loop-preserved invariant-loop decreases-loop
 loop-again c =
     let i = c.before.before.before.before.loop.invariant in
-    rank-again i c.before.before.before.loop-test.true (sym c.before.is-reached.ensures ∙ not-false _ c.if1.false)
+    rank_again i c.before.before.before.loop-test.true (sym c.before.is-reached.ensures ∙ not-false _ c.if1.false)
 
 returns-2 : tie.Need-returns-2 invariant-loop decreases-loop
-returns-2 c = let i = c.before.loop.invariant in (rank-last i c.loop-test.false, i.within)
+returns-2 c = let i = c.before.loop.invariant in (rank_last i c.loop-test.false, i.within)
 
 pub rank-at-spec : {M : Type 1} → statement M
 rank-at-spec =

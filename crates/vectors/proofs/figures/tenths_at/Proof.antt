@@ -1,5 +1,5 @@
 -- `vectors::figures::tenths_at` meets its contract: entry n stands before the n-th pair's end. Assumes nothing.
-use Rattle.vectors.proofs.Raised.{tenths-none, tenths-some}
+use Rattle.vectors.proofs.Raised.{tenths_none, tenths_some}
 use borrow.Author.Rules.{rules}
 use Rattle.vectors.proofs.figures.tenths_at.Statement.{statement}
 use Rattle.vectors.proofs.figures.tenths_at.Tie as tie
@@ -17,10 +17,10 @@ element-copy-out-result : tie.Need-element-copy-out-result
 element-copy-out-result c = search rules
 
 returns : tie.Need-returns
-returns c = tenths-none _ _ c.if1.true
+returns c = tenths_none _ _ c.if1.true
 
 returns-2 : tie.Need-returns-2
-returns-2 c = tenths-some _ _ c.before.if1.false
+returns-2 c = tenths_some _ _ c.before.if1.false
 
 pub tenths-at-spec : {M : Type 1} → statement M
 tenths-at-spec =

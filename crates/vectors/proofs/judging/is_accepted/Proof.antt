@@ -1,5 +1,5 @@
 -- `vectors::judging::is_accepted` meets its contract: its four tests are the definition's. Assumes nothing.
-use Rattle.vectors.proofs.Compound.{accepted-is}
+use Rattle.vectors.proofs.Compound.{accepted_is}
 use borrow.Author.Rules.{rules}
 use Rattle.vectors.proofs.judging.is_accepted.Statement.{statement}
 use Rattle.vectors.proofs.judging.is_accepted.Tie as tie
@@ -30,7 +30,7 @@ returns c =
     let p = c.before.before in
     let w = p.before in
     let f = w.before.before in
-    accepted-is _ _ _ _ _ _ w.wide.ensures.0 p.both.ensures f.before.is_same.ensures c.before.both2.ensures f.are-right.ensures c.both3.ensures
+    accepted_is _ _ _ _ _ _ w.wide.ensures.0 p.both.ensures f.before.is_same.ensures c.before.both2.ensures f.are-right.ensures c.both3.ensures
 
 pub is-accepted-spec : {M : Type 1} → statement M
 is-accepted-spec =

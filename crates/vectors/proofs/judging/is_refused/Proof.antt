@@ -1,5 +1,5 @@
 -- `vectors::judging::is_refused` meets its contract: its two tests are the definition's. Assumes nothing.
-use Rattle.vectors.proofs.Compound.{refused-is}
+use Rattle.vectors.proofs.Compound.{refused_is}
 use borrow.Author.Rules.{rules}
 use Rattle.vectors.proofs.judging.is_refused.Statement.{statement}
 use Rattle.vectors.proofs.judging.is_refused.Tie as tie
@@ -11,7 +11,7 @@ both-requires : tie.Need-both-requires
 both-requires c κs = search rules
 
 returns : tie.Need-returns
-returns c = refused-is _ _ _ c.before.is_same.ensures c.both.ensures
+returns c = refused_is _ _ _ c.before.is_same.ensures c.both.ensures
 
 pub is-refused-spec : {M : Type 1} → statement M
 is-refused-spec = tie.close (tie.spec is-same-requires both-requires returns)

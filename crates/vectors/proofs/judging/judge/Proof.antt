@@ -1,5 +1,5 @@
 -- `vectors::judging::judge` meets its contract: it finds by the vector that the text is. Assumes nothing.
-use Rattle.vectors.proofs.Compound.{finding-is}
+use Rattle.vectors.proofs.Compound.{finding_is}
 use borrow.Author.Rules.{rules}
 use Rattle.vectors.proofs.judging.judge.Statement.{statement}
 use Rattle.vectors.proofs.judging.judge.Tie as tie
@@ -19,7 +19,7 @@ found-of-requires c κs = search rules
 returns : tie.Need-returns
 returns c =
     let r = c.before.before in
-    finding-is _ _ _ _ _ _ r.before.vector-of.ensures.vector r.is_right.ensures c.before.is-alike.ensures c.found_of.ensures
+    finding_is _ _ _ _ _ _ r.before.vector-of.ensures.vector r.is_right.ensures c.before.is-alike.ensures c.found_of.ensures
 
 pub judge-spec : {M : Type 1} → statement M
 judge-spec =

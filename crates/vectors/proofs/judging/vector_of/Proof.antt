@@ -1,5 +1,5 @@
 -- `vectors::judging::vector_of` meets its contract: its parts are those of the definition. Assumes nothing.
-use Rattle.vectors.proofs.Texts.{vector-is}
+use Rattle.vectors.proofs.Texts.{vector_is}
 use borrow.Author.Rules.{rules}
 use Rattle.vectors.proofs.judging.vector_of.Statement.{statement}
 use Rattle.vectors.proofs.judging.vector_of.Tie as tie
@@ -20,7 +20,7 @@ returns : tie.Need-returns
 returns c =
     let v = c.before.before.before in
     record {
-      vector = vector-is _ v.before.next_word.ensures.0 v.next-word2.ensures.0 c.before.room_of.ensures.0 c.line_at_lem.ensures.0;
+      vector = vector_is _ v.before.next_word.ensures.0 v.next-word2.ensures.0 c.before.room_of.ensures.0 c.line_at_lem.ensures.0;
       small = search rules;
       values = search rules;
       line = search rules;
