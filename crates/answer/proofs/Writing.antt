@@ -6,7 +6,7 @@ use native.Mathlib.Omega.{arith}
 use lib.ListN.{length, take, drop}
 use lib.Seq.{sets, length-sets, take_at, drop_at}
 use Rattle.guidance.specs.declared.Case.{Case}
-use Rattle.bytes.specs.laws.Storing.{at_start}
+use Rattle.byte_numbers.specs.laws.Storing.{at_start}
 use Rattle.layout.specs.laws.Places.{answer_length_lem}
 use Rattle.layout.specs.Places.{answer_bytes}
 use Rattle.layout.specs.Fitting.{Fit}

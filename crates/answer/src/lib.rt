@@ -1,4 +1,5 @@
 // The entries: a case, as a frame's bytes or as a line, is answered into a lent area of at least 77 bytes, or refused.
+#![tactic(auto)]
 ghost use Rattle.std.specs.Prelude.{◌≡◌};
 ghost use Rattle.guidance.specs.Cases.{Accepted};
 ghost use Rattle.guidance.specs.AirPressure.{air_of};
@@ -10,7 +11,7 @@ use guidance::Case;
 use layout::{Damages, Ends, Probit, Probits};
 
 // An answer's numbers, but for the damages, which the probits give.
-#[derive(Drop)]
+#[derive(Clone, Copy)]
 struct Figures {
     range: u64,
     pressure: Ends,

@@ -8,8 +8,8 @@ use native.Mathlib.Omega.{arith}
 use lib.ListN.{length, get_or, take, drop}
 use lib.Seq.{length-sets, take_all, take_at}
 use borrow.Rule.Slice.PartMut.{mid_of, put_mid}
-use Rattle.bytes.specs.Storing.{Stored}
-use Rattle.bytes.specs.laws.Storing.{and_then, stored_as, through_part, at_start}
+use Rattle.byte_numbers.specs.Storing.{Stored}
+use Rattle.byte_numbers.specs.laws.Storing.{and_then, stored_as, through_part, at_start}
 use Rattle.fields.specs.Bytes.{long_frame}
 use Rattle.fields.specs.laws.Back.{long_length}
 use Rattle.places.specs.declared.Held.{Held}

@@ -1,7 +1,7 @@
 -- What the steps of gathering promise one another.
 use Rattle.std.specs.Prelude.{ℕ, ◌+◌, ◌*◌, ◌≡◌, List, length}
 use Rattle.std.proofs.Math.Option.{Option, none, some}
-use Rattle.bytes.specs.Storing.{Stored}
+use Rattle.byte_numbers.specs.Storing.{Stored}
 use Rattle.places.specs.declared.Held.{Held}
 use Rattle.places.specs.Holes.{closed}
 use Rattle.archive.specs.Archived.{frame_at, frames_of}

@@ -1,4 +1,6 @@
 // An area that a test program lends, full of marks, and how much of it was written into.
+#![tactic(auto)]
+
 ghost use Rattle.std.specs.Prelude.{◌≡◌, cond, ◌≤◌, ltb, length};
 ghost use Rattle.areas.specs.Areas.{written_in};
 

@@ -1,5 +1,6 @@
 // Overpressure and impulse of an accepted case: intervals around the exact values, and whole numbers around these.
 // Branches are taken by the exact tests of `guidance` alone; each function follows its formula operation by operation.
+#![tactic(auto)]
 ghost use Rattle.std.specs.Prelude.{◌^◌, ◌<◌};
 ghost use Rattle.guidance.specs.Cases.{Air, Accepted};
 ghost use Rattle.guidance.specs.Waves.{reduced_distance, detonation_pressure, detonation_impulse, reduced_pressure, reduced_impulse, overpressure, impulse};
@@ -13,14 +14,14 @@ use layout::Ends;
 use span::Span;
 
 // ΔP and I as intervals.
-#[derive(Drop)]
+#[derive(Clone, Copy)]
 pub struct Wave {
     pub pressure: Span,
     pub impulse: Span,
 }
 
 // ΔP and I by deflagration and by detonation (request 5).
-#[derive(Drop)]
+#[derive(Clone, Copy)]
 pub struct Figures {
     pub deflagration: Wave,
     pub detonation: Wave,
@@ -114,7 +115,7 @@ fn reduced_distance(c: Case, k: Cloud, air: u64) -> Span
 }
 
 // What a detonation formula takes: the state in the near field, Rx of a heterogeneous cloud, ln Rx of a gas.
-#[derive(Drop)]
+#[derive(Clone, Copy)]
 enum Detonation {
     Near(u64),
     Heterogeneous(Span),
@@ -122,7 +123,7 @@ enum Detonation {
 }
 
 // What the deflagration formulas take: w, g and R.
-#[derive(Drop)]
+#[derive(Clone, Copy)]
 struct Flame {
     mach: Span,
     expansion: Span,
@@ -130,21 +131,21 @@ struct Flame {
 }
 
 // The deflagration of ranges 2 to 6; range 1 has none.
-#[derive(Drop)]
+#[derive(Clone, Copy)]
 enum Deflagration {
     Absent,
     Burning(Flame),
 }
 
 // What overpressure and impulse of a case are both worked from.
-#[derive(Drop)]
+#[derive(Clone, Copy)]
 struct Common {
     detonation: Detonation,
     deflagration: Deflagration,
 }
 
 // What Ix is multiplied by: P0^(2/3) and E^(1/3).
-#[derive(Drop)]
+#[derive(Clone, Copy)]
 struct Scale {
     power: Span,
     root: Span,

@@ -8,7 +8,7 @@ use native.Mathlib.Omega.{arith}
 use lib.ListN.{length, get_or, take, drop, set, length-set, length-drop}
 use lib.Seq.{sets, length-sets, take-suc-set, take_all, length-take-le}
 use borrow.Rule.Slice.PartMut.{mid_of, put_mid}
-use Rattle.bytes.specs.laws.Storing.{and_then, whole_part, sets_all}
+use Rattle.byte_numbers.specs.laws.Storing.{and_then, whole_part, sets_all}
 use Rattle.columns.specs.Transposed.{column, columns_from, transposed}
 use Rattle.columns.specs.laws.Cells.{length_column, column_next, length_columns, columns_next}
 

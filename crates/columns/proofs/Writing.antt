@@ -10,8 +10,8 @@ use lib.ListN.{length, get_or, take, drop, set, length-drop, length-set}
 use lib.Seq.{sets, take_all}
 use borrow.Author.Tests.{lt-ltb, le-ltb, eq-eqb, ne_eqb}
 use borrow.Rule.Slice.PartMut.{put_mid}
-use Rattle.bytes.specs.Storing.{Stored}
-use Rattle.bytes.specs.laws.Storing.{and_then, whole_part, at_start}
+use Rattle.byte_numbers.specs.Storing.{Stored}
+use Rattle.byte_numbers.specs.laws.Storing.{and_then, whole_part, at_start}
 use Rattle.refusals.specs.Order.{first_of}
 use Rattle.columns.specs.declared.Refusal.{Refusal}
 use Rattle.columns.specs.declared.Refusal.TheVariants.{Columns, Space}

@@ -1,4 +1,5 @@
 // Frames stored by column: like beside like, for an archive that packs them; and turned back.
+#![tactic(auto)]
 ghost use Rattle.std.specs.Prelude.{◌≡◌, ◌*◌, ◌<◌, length};
 ghost use Rattle.refusals.specs.Faults.{filled};
 ghost use Rattle.columns.specs.Transposed.{column, transposed};
@@ -11,7 +12,7 @@ const FRAME: usize = 24;
 const FRAMES: usize = 64;
 
 // Why stored bytes are not turned back, in the order of the tests: 20, then 8.
-#[derive(Drop)]
+#[derive(Clone, Copy)]
 pub enum Refusal {
     // they are empty, or their number of frames or their length is wrong
     Columns,
@@ -19,14 +20,14 @@ pub enum Refusal {
 }
 
 // What becomes of frames that are to be stored: how many bytes were written, or 8, the only refusal.
-#[derive(Drop)]
+#[derive(Clone, Copy)]
 pub enum Storing {
     Written(usize),
     Space,
 }
 
 // What becomes of stored bytes that are to be turned back.
-#[derive(Drop)]
+#[derive(Clone, Copy)]
 pub enum Restoring {
     Written(usize),
     Refused(Refusal),

@@ -1,4 +1,6 @@
 // Table 3 of 003: the damage that a probit reads.
+#![tactic(auto)]
+
 ghost use Rattle.std.specs.Prelude.{◌≡◌, ◌*◌};
 ghost use Rattle.damage.specs.Damage.{not_above, table, tenths_of_percent, damage};
 ghost use Rattle.damage.specs.laws.Readings.{from_zero};

@@ -1,4 +1,6 @@
 // ln, e^ and powers of intervals on machine words: a positive interval is a `Span`, a logarithm or exponent a `Log`.
+#![tactic(auto)]
+
 mod exponential;
 mod logarithm;
 mod tables;

@@ -1,7 +1,7 @@
 -- The fields of a case frame, numbers unsigned, high byte first: ten in 22 bytes (document 01, "The case frame"), and the air pressure in two more
 -- or, where it is the standard one, in none (request 11).
 use Rattle.std.specs.Prelude.{ℕ, cond, List, [], ◌++◌, length, eqb}
-use Rattle.bytes.specs.Numbers.{one_at, two_at, four_at, one, two, four}
+use Rattle.byte_numbers.specs.Numbers.{one_at, two_at, four_at, one, two, four}
 use Rattle.guidance.specs.declared.Case.{Case}
 use Rattle.guidance.specs.AirPressure.{standard}
 

@@ -1,7 +1,9 @@
 // The fields of a case frame: read from its 22 or 24 bytes, and written into them.
+#![tactic(auto)]
+
 ghost use Rattle.std.specs.Prelude.{◌≡◌, ◌≤◌, length};
 ghost use Rattle.std.proofs.lemmas.List.Edits.{sets};
-ghost use Rattle.bytes.specs.Storing.{Stored};
+ghost use Rattle.byte_numbers.specs.Storing.{Stored};
 ghost use Rattle.fields.specs.Bytes.{air_in, fields_of, settings, first_bytes, frame_bytes, long_frame};
 
 use guidance::Case;
@@ -11,7 +13,7 @@ fn air_in(frame: &[u8]) -> u64
     ensures { result ≡ air_in frame.now }
 {
     if frame.len() == 24 {
-        bytes::two_at(frame, 22)
+        byte_numbers::two_at(frame, 22)
     } else {
         guidance::STANDARD
     }
@@ -25,16 +27,16 @@ pub fn read(frame: &[u8]) -> Case
     // first: a branch behind the other fields keeps their bytes from being loaded as words
     let air = air_in(frame);
     Case {
-        substance: bytes::one_at(frame, 0),
-        state: bytes::one_at(frame, 1),
-        placement: bytes::one_at(frame, 2),
-        surroundings: bytes::one_at(frame, 3),
-        mass: bytes::four_at(frame, 4),
-        mean: bytes::two_at(frame, 8),
-        stoichiometric: bytes::two_at(frame, 10),
-        heat: bytes::four_at(frame, 12),
-        distance: bytes::four_at(frame, 16),
-        body: bytes::two_at(frame, 20),
+        substance: byte_numbers::one_at(frame, 0),
+        state: byte_numbers::one_at(frame, 1),
+        placement: byte_numbers::one_at(frame, 2),
+        surroundings: byte_numbers::one_at(frame, 3),
+        mass: byte_numbers::four_at(frame, 4),
+        mean: byte_numbers::two_at(frame, 8),
+        stoichiometric: byte_numbers::two_at(frame, 10),
+        heat: byte_numbers::four_at(frame, 12),
+        distance: byte_numbers::four_at(frame, 16),
+        body: byte_numbers::two_at(frame, 20),
         air,
     }
 }
@@ -51,10 +53,10 @@ pub fn write_settings(s: &mut [u8], substance: u64, state: u64, placement: u64, 
     requires { 4 ≤ length s.old }
     ensures { Stored s.old 0 (settings substance state placement surroundings) s.new }
 {
-    bytes::put_one(s, 0, substance);
-    bytes::put_one(s, 1, state);
-    bytes::put_one(s, 2, placement);
-    bytes::put_one(s, 3, surroundings);
+    byte_numbers::put_one(s, 0, substance);
+    byte_numbers::put_one(s, 1, state);
+    byte_numbers::put_one(s, 2, placement);
+    byte_numbers::put_one(s, 3, surroundings);
 }
 
 // All but the air pressure of a case, into the first 22 bytes of s.
@@ -63,12 +65,12 @@ pub fn write_first(s: &mut [u8], c: Case)
     ensures { Stored s.old 0 (first_bytes c) s.new }
 {
     write_settings(s, c.substance, c.state, c.placement, c.surroundings);
-    bytes::put_four(s, 4, c.mass);
-    bytes::put_two(s, 8, c.mean);
-    bytes::put_two(s, 10, c.stoichiometric);
-    bytes::put_four(s, 12, c.heat);
-    bytes::put_four(s, 16, c.distance);
-    bytes::put_two(s, 20, c.body);
+    byte_numbers::put_four(s, 4, c.mass);
+    byte_numbers::put_two(s, 8, c.mean);
+    byte_numbers::put_two(s, 10, c.stoichiometric);
+    byte_numbers::put_four(s, 12, c.heat);
+    byte_numbers::put_four(s, 16, c.distance);
+    byte_numbers::put_two(s, 20, c.body);
 }
 
 // The frame of a case in 24 bytes, the standard pressure written out too.
@@ -77,7 +79,7 @@ pub fn write_long(s: &mut [u8], c: Case)
     ensures { Stored s.old 0 (long_frame c) s.new }
 {
     write_first(s, c);
-    bytes::put_two(s, 22, c.air);
+    byte_numbers::put_two(s, 22, c.air);
 }
 
 // The frame of a case, into the first 22 or 24 bytes of s.

@@ -1,4 +1,6 @@
 // Intervals of real numbers of either sign, in fixed point: both ends are i64 in units of 2^-30, the lower divided downward and the upper upward, around zero.
+#![tactic(auto)]
+
 ghost use Rattle.std.specs.Prelude.{◌≡◌, ◌^◌};
 ghost use Rattle.fixed.specs.FloorAndCeiling.{floor_z, min_z};
 ghost use Rattle.fixed.specs.Logs.{Small};
@@ -7,7 +9,7 @@ ghost use Rattle.fixed.specs.ProductSteps.{Coarse, Mirror, Pairs, lowest_z};
 ghost use Rattle.fixed.specs.Millis.{Countable, floor_milli, ceil_milli};
 
 // The numbers from lo / 2^30 to hi / 2^30.
-#[derive(Drop)]
+#[derive(Clone, Copy)]
 pub struct Log {
     pub lo: i64,
     pub hi: i64,

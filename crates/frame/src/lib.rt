@@ -1,4 +1,5 @@
 // The case frame and the line that spells it: refusals in their order, the verdict.
+#![tactic(auto)]
 ghost use Rattle.std.specs.Prelude.{◌≡◌, ◌||◌, eqb};
 ghost use Rattle.guidance.specs.CloudWords.{Heated};
 ghost use Rattle.refusals.specs.Faults.{filled};
@@ -16,7 +17,7 @@ use refusals::Fault;
 pub const ANSWER: usize = 77;
 
 // Why a case has no answer: a fault of its own, then tests 7 and 8.
-#[derive(Drop)]
+#[derive(Clone, Copy)]
 pub enum Refusal {
     Faulty(Fault),
     Beyond,
@@ -24,7 +25,7 @@ pub enum Refusal {
 }
 
 // What becomes of a case: it is accepted, or refused by the first test that applies.
-#[derive(Drop)]
+#[derive(Clone, Copy)]
 pub enum Verdict {
     Accepted(Case),
     Refused(Refusal),

@@ -1,4 +1,5 @@
 // The way in from the old form: a line of 116 hexadecimal digits, its tests, and the case frame that it gives.
+#![tactic(auto)]
 ghost use Rattle.std.specs.Prelude.{◌≡◌, false, length};
 ghost use Rattle.refusals.specs.Faults.{filled};
 ghost use Rattle.old_case.specs.Cases.{unusable_in};
@@ -15,7 +16,7 @@ use refusals::Fault;
 const LINE: usize = 116;
 
 // Why an old line has no frame: as any case that is to be written, or by tests 15 and 16, which stand behind 2.
-#[derive(Drop)]
+#[derive(Clone, Copy)]
 pub enum Refusal {
     Unwritten(writable::Refusal),
     Tag,
@@ -23,14 +24,14 @@ pub enum Refusal {
 }
 
 // What becomes of an old line.
-#[derive(Drop)]
+#[derive(Clone, Copy)]
 pub enum Verdict {
     Accepted(Case),
     Refused(Refusal),
 }
 
 // What tests 1, 2, 15 and 16 make of an old line.
-#[derive(Drop)]
+#[derive(Clone, Copy)]
 enum Reading {
     Old(OldCase),
     Unread(Refusal),

@@ -16,7 +16,7 @@ pub fn choose(test: bool, a: u64, b: u64) -> u64
 }
 
 // A number of two words, hi·2^64 + lo.
-#[derive(Drop)]
+#[derive(Clone, Copy)]
 struct Wide {
     hi: u64,
     lo: u64,

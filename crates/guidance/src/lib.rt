@@ -1,4 +1,6 @@
 // The guidance as this product reads it: what is decided exactly of a case, on words.
+#![tactic(auto)]
+
 ghost use Rattle.std.specs.Prelude.{◌≡◌, ◌&&◌, ◌≤◌, eqb, ltb};
 ghost use Rattle.guidance.specs.Substances.{heat_of};
 ghost use Rattle.guidance.specs.AirPressure.{air_of};
@@ -19,7 +21,7 @@ pub const STANDARD: u64 = 10130;
 pub const STANDARD_AIR: u64 = 101300;
 
 // A case, field by field as its frame gives it.
-#[derive(Drop)]
+#[derive(Clone, Copy)]
 pub struct Case {
     // 0 unlisted; 1 to 75
     pub substance: u64,
@@ -46,7 +48,7 @@ pub struct Case {
 }
 
 // What is worked out of a case once: its speed range, and its energy E = joules/parts, times 3/4 where `aerosol` holds.
-#[derive(Drop)]
+#[derive(Clone, Copy)]
 pub struct Cloud {
     pub range: u64,
     pub joules: u64,

@@ -1,4 +1,6 @@
 // Hexadecimal digits, either letter case, and the bytes that a line of them spells; bytes written as upper-case digits.
+#![tactic(auto)]
+
 ghost use Rattle.std.specs.Prelude.{◌≡◌, ◌*◌, ◌≤◌, ◌<◌, length, ltb, ◌&&◌};
 ghost use Rattle.std.proofs.lemmas.List.Edits.{sets};
 ghost use Rattle.hexadecimals.specs.Digits.{within, digit_of};

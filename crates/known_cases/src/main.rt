@@ -1,4 +1,5 @@
 // The test program: the known cases of document 01 that are not proved, the printed examples, and a separate high-precision calculation held against the answers.
+#![tactic(auto)]
 ghost use Rattle.io.specs.Counts.{IsPrefixLen};
 
 mod answers;

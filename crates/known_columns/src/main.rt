@@ -1,5 +1,6 @@
 // The test program of columns: each request of its input, a line, is a sheet that is stored, by value and from lent bytes, or stored bytes that are turned back.
 // Its stored output is that of a separate calculation.
+#![tactic(auto)]
 ghost use Rattle.std.specs.Prelude.{◌≡◌, ◌≤◌, length};
 
 use areas::MARK;

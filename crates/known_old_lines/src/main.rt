@@ -1,5 +1,6 @@
 // The test program of the old form: each request of its input, a way, an area's length and a text, taken in or given back.
 // Its stored output is that of a separate calculation.
+#![tactic(auto)]
 ghost use Rattle.std.specs.Prelude.{◌≤◌, length};
 
 use areas::MARK;

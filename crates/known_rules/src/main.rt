@@ -1,5 +1,6 @@
 // The test program of rules: each case of its input, a line, answered from the line and from the frame that it spells.
 // Its stored output is that of a separate calculation.
+#![tactic(auto)]
 ghost use Rattle.std.specs.Prelude.{◌≤◌, length};
 
 use libc::{STDIN_FILENO, STDOUT_FILENO};

@@ -1,5 +1,6 @@
 // The test program of sheets: each operation of its input, a line, on a sheet by value and on a lent one.
 // Its stored output is that of a separate calculation on a plain list with holes.
+#![tactic(auto)]
 ghost use Rattle.std.specs.Prelude.{◌≤◌, length};
 
 use guidance::Case;

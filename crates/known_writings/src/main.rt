@@ -1,5 +1,6 @@
 // The test program of writing: each request of its input, a way, an area's length and a case, written as a frame or as a spelling.
 // Its stored output is that of a separate calculation.
+#![tactic(auto)]
 ghost use Rattle.std.specs.Prelude.{◌≤◌, length};
 
 use areas::MARK;

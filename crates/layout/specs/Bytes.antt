@@ -1,6 +1,6 @@
 -- The two ends of an interval in bytes, and two's complement in 32 bits (document 01, "The answer frame"). Assumes nothing.
 use Rattle.std.specs.Prelude.{ℕ, suc, ◌-◌, ◌^◌, List, ◌++◌, ℤ, pos, negsuc}
-use Rattle.bytes.specs.Numbers.{two, four}
+use Rattle.byte_numbers.specs.Numbers.{two, four}
 
 -- a signed number in two's complement
 unfoldable pub twos : ℤ → ℕ

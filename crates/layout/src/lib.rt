@@ -1,9 +1,11 @@
 // The writers of the answer frame: numbers high byte first, each into a part of the lent area.
 // Every contract gives all that was lent at exit: `Stored l i bs L` says that L is l with the bytes bs stored from index i on (`sets l i bs`).
+#![tactic(auto)]
+
 ghost use Rattle.std.specs.Prelude.{◌≡◌, ◌+◌, ◌^◌, ◌≤◌, ◌<◌, length};
 ghost use Rattle.std.proofs.lemmas.List.Edits.{sets};
 ghost use Rattle.std.specs.Int.Signed.{mag};
-ghost use Rattle.bytes.specs.Storing.{Stored};
+ghost use Rattle.byte_numbers.specs.Storing.{Stored};
 ghost use Rattle.layout.specs.Bytes.{twos, words};
 ghost use Rattle.layout.specs.Fitting.{Fits, Fit};
 ghost use Rattle.layout.specs.Places.{probit_of, wave_bytes, probit_bytes, damage_of, damage_bytes, range_byte, answer_bytes};
@@ -22,21 +24,21 @@ fn bits(x: i64) -> u64
 }
 
 // The two ends of an interval: pressure in Pa, impulse in Pa·s, or damage in tenths of a percent.
-#[derive(Drop)]
+#[derive(Clone, Copy)]
 pub struct Ends {
     pub lower: u64,
     pub upper: u64,
 }
 
 // The two ends of a probit, thousandths.
-#[derive(Drop)]
+#[derive(Clone, Copy)]
 pub struct Probit {
     pub lower: i64,
     pub upper: i64,
 }
 
 // Pr1 to Pr5.
-#[derive(Drop)]
+#[derive(Clone, Copy)]
 pub struct Probits {
     pub first: Probit,
     pub second: Probit,
@@ -46,7 +48,7 @@ pub struct Probits {
 }
 
 // The damages that Pr1 to Pr5 read.
-#[derive(Drop)]
+#[derive(Clone, Copy)]
 pub struct Damages {
     pub first: Ends,
     pub second: Ends,
@@ -60,8 +62,8 @@ fn put_damage(s: &mut [u8], at: usize, d: Ends)
     requires { at + 4 ≤ length s.old }
     ensures { Stored s.old at (damage_of d) s.new }
 {
-    bytes::put_two(s, at, d.lower);
-    bytes::put_two(s, at + 2, d.upper);
+    byte_numbers::put_two(s, at, d.lower);
+    byte_numbers::put_two(s, at + 2, d.upper);
 }
 
 // The two ends of a pressure or an impulse, four bytes each.
@@ -69,8 +71,8 @@ fn put_ends(s: &mut [u8], at: usize, e: Ends)
     requires { at + 8 ≤ length s.old }
     ensures { Stored s.old at (words e.lower e.upper) s.new }
 {
-    bytes::put_four(s, at, e.lower);
-    bytes::put_four(s, at + 4, e.upper);
+    byte_numbers::put_four(s, at, e.lower);
+    byte_numbers::put_four(s, at + 4, e.upper);
 }
 
 // The two ends of a probit in two's complement, four bytes each.

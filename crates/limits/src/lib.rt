@@ -1,4 +1,6 @@
 // Tests 3 to 6, with 12 to 14 in the place of 4: whether each field of a case holds one of its values, and whether the case has a heat.
+#![tactic(auto)]
+
 ghost use Rattle.std.specs.Prelude.{◌≡◌};
 ghost use Rattle.limits.specs.Tests.{outside, quantity_outside, heat_missing};
 ghost use Rattle.limits.specs.Checks.{values_checked, heat_checked, case_checked};
@@ -7,7 +9,7 @@ use guidance::Case;
 use refusals::Fault;
 
 // What the tests of a case alone make of it.
-#[derive(Drop)]
+#[derive(Clone, Copy)]
 pub enum Checked {
     Sound(Case),
     Unsound(Fault),

@@ -1,1 +1,2 @@
 // No code: the numbers and words of all entries' refusals, side by side.
+#![tactic(auto)]

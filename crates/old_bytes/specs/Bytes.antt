@@ -2,7 +2,7 @@
 use Rattle.std.specs.Prelude.{ℕ, Bool, not, ◌||◌, List, ◌++◌, eqb, Float}
 use Rattle.std.specs.Float.{binary64}
 use Rattle.std.specs.Float.Ieee.{of_bits, to_bits}
-use Rattle.bytes.specs.Numbers.{one_at, eight_at, one, eight}
+use Rattle.byte_numbers.specs.Numbers.{one_at, eight_at, one, eight}
 use Rattle.fields.specs.Bytes.{settings}
 use Rattle.old_case.specs.declared.OldField.{OldField}
 use Rattle.old_case.specs.declared.OldField.TheVariants.{MassKg, MeanG, StoichiometricG, HeatMj, DistanceM, BodyKg}

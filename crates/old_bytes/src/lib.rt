@@ -1,7 +1,8 @@
 // The 58 bytes of an old case: four settings, then six fields of a tag and a double, high byte first.
+#![tactic(auto)]
 ghost use Rattle.std.specs.Prelude.{◌≡◌, false, ◌+◌, ◌≤◌, length};
 ghost use Rattle.std.proofs.lemmas.List.Edits.{sets};
-ghost use Rattle.bytes.specs.Storing.{Stored};
+ghost use Rattle.byte_numbers.specs.Storing.{Stored};
 ghost use Rattle.doubles.specs.Doubles.{unusable};
 ghost use Rattle.old_case.specs.Fields.{value_of};
 ghost use Rattle.old_case.specs.Cases.{unusable_in};
@@ -13,7 +14,7 @@ fn double_at(s: &[u8], at: usize) -> f64
     requires { at + 8 ≤ length s.now }
     ensures { result ≡ double_at s.now at }
 {
-    doubles::of_bits(bytes::eight_at(s, at))
+    doubles::of_bits(byte_numbers::eight_at(s, at))
 }
 
 // The case in 58 bytes, whatever its tags and doubles are.
@@ -22,10 +23,10 @@ pub fn read(s: &[u8]) -> OldCase
     ensures { result ≡ old_of s.now }
 {
     OldCase {
-        substance: bytes::one_at(s, 0),
-        state: bytes::one_at(s, 1),
-        placement: bytes::one_at(s, 2),
-        surroundings: bytes::one_at(s, 3),
+        substance: byte_numbers::one_at(s, 0),
+        state: byte_numbers::one_at(s, 1),
+        placement: byte_numbers::one_at(s, 2),
+        surroundings: byte_numbers::one_at(s, 3),
         mass: double_at(s, 5),
         mean: double_at(s, 14),
         stoichiometric: double_at(s, 23),
@@ -82,8 +83,8 @@ fn put_field(s: &mut [u8], at: usize, f: OldField)
 {
     let tag = tag_of(f);
     let bits = f64::to_bits(value_of(f));
-    bytes::put_one(s, at, tag);
-    bytes::put_eight(s, at + 1, bits);
+    byte_numbers::put_one(s, at, tag);
+    byte_numbers::put_eight(s, at + 1, bits);
 }
 
 // The 58 bytes of an old case, into the first bytes of s.

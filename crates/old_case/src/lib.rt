@@ -1,4 +1,6 @@
 // A case as the old form holds it, four settings and six doubles, and the case of whole numbers that it stands for.
+#![tactic(auto)]
+
 ghost use Rattle.std.specs.Prelude.{◌≡◌, false};
 ghost use Rattle.guidance.specs.Cases.{Fields};
 ghost use Rattle.doubles.specs.Doubles.{unusable};
@@ -8,7 +10,7 @@ ghost use Rattle.old_case.specs.Cases.{unusable_in, case_of, lost_heat, old_case
 use guidance::Case;
 
 // One field of the old form, in the unit that its tag names.
-#[derive(Drop)]
+#[derive(Clone, Copy)]
 pub enum OldField {
     MassKg(f64),
     MeanG(f64),
@@ -30,7 +32,7 @@ const DISTANCE: u64 = 100;
 const BODY: u64 = 1;
 
 // A case as the old form holds it.
-#[derive(Drop)]
+#[derive(Clone, Copy)]
 pub struct OldCase {
     pub substance: u64,
     pub state: u64,

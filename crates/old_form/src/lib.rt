@@ -1,1 +1,2 @@
 // What holds of the old form's two ways together; no code.
+#![tactic(auto)]

@@ -1,4 +1,6 @@
 // 64 places, each a case or none, by value.
+#![tactic(auto)]
+
 ghost use Rattle.std.specs.Prelude.{◌≡◌, [], ◌-◌, ◌≤◌, length, set};
 ghost use Rattle.places.specs.Holes.{vacant, at, closed};
 ghost use Rattle.places.specs.Places.{content_of, holds, stands_for};
@@ -6,7 +8,7 @@ ghost use Rattle.places.specs.Places.{content_of, holds, stands_for};
 use guidance::Case;
 
 // A case with the upper end of its overpressure, as found when it was added.
-#[derive(Drop)]
+#[derive(Clone, Copy)]
 pub struct Held {
     pub case: Case,
     // Pa
@@ -14,14 +16,14 @@ pub struct Held {
 }
 
 // What a place holds.
-#[derive(Drop)]
+#[derive(Clone, Copy)]
 pub enum Content {
     Hole,
     Taken(Held),
 }
 
 // A struct around it, since an array holds structs and no enums.
-#[derive(Drop)]
+#[derive(Clone, Copy)]
 pub struct Place {
     pub content: Content,
 }

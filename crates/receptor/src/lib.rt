@@ -1,4 +1,5 @@
 // A case at another distance than its own.
+#![tactic(auto)]
 ghost use Rattle.std.specs.Prelude.{◌≡◌};
 ghost use Rattle.guidance.specs.Cases.{Air};
 ghost use Rattle.guidance.specs.CloudWords.{Heated};

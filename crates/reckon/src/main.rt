@@ -1,4 +1,5 @@
 // Reads lines from standard input to its end, and writes each line's record to standard output.
+#![tactic(auto)]
 ghost use Rattle.std.specs.Prelude.{length};
 ghost use Rattle.text.specs.Streams.{Tells, TellsLast};
 ghost use Rattle.text.specs.Promises.{Ready};

@@ -1,9 +1,11 @@
 // The faults of a case, by number and word, and the test of six fields as one.
+#![tactic(auto)]
+
 ghost use Rattle.std.specs.Prelude.{◌≡◌, ◌||◌};
 ghost use Rattle.refusals.specs.Faults.{number, filled, word};
 
 // What is wrong with a case itself, in the order of the tests.
-#[derive(Drop)]
+#[derive(Clone, Copy)]
 pub enum Fault {
     Length,
     Digit,

@@ -1,4 +1,5 @@
 // The ring of a threshold: an inner and an outer distance, between which the overpressure of a case falls below it.
+#![tactic(auto)]
 ghost use Rattle.std.specs.Prelude.{◌≡◌, ◌^◌};
 ghost use Rattle.guidance.specs.Cases.{Air};
 ghost use Rattle.guidance.specs.CloudWords.{Heated};
@@ -16,7 +17,7 @@ use layout::Ends;
 use limits::Checked;
 
 // Why there is no ring, in the order of the tests: a fault of the case, then 9, 10 and 11.
-#[derive(Drop)]
+#[derive(Clone, Copy)]
 pub enum Refusal {
     Faulty(refusals::Fault),
     // the threshold is outside its limits
@@ -28,7 +29,7 @@ pub enum Refusal {
 }
 
 // Distances in cm, or the first test that applies.
-#[derive(Drop)]
+#[derive(Clone, Copy)]
 pub enum Answer {
     Ring { inner: u64, outer: u64 },
     Refused(Refusal),
@@ -58,7 +59,7 @@ pub fn word_of(r: Refusal) -> [u8; 12]
 }
 
 // The end of an interval that a search follows.
-#[derive(Drop)]
+#[derive(Clone, Copy)]
 enum Side {
     Lower,
     Upper,

@@ -1,5 +1,6 @@
 // Why a figure is what it is: the rule that gave ΔP and the rule that gave I of an accepted case.
 // The near field and 0.34 are told by the exact tests of `guidance`, the smaller of two figures by intervals that lie apart.
+#![tactic(auto)]
 ghost use Rattle.std.specs.Prelude.{◌≡◌};
 ghost use Rattle.guidance.specs.AirPressure.{air_of};
 ghost use Rattle.guidance.specs.Cases.{Accepted};
@@ -15,7 +16,7 @@ use layout::Ends;
 use span::Span;
 
 // What gave a figure.
-#[derive(Drop)]
+#[derive(Clone, Copy)]
 pub enum Rule {
     NearField,
     Detonation,
@@ -29,14 +30,14 @@ pub enum Rule {
 }
 
 // What gave ΔP, and what gave I.
-#[derive(Drop)]
+#[derive(Clone, Copy)]
 pub struct Rules {
     pub pressure: Rule,
     pub impulse: Rule,
 }
 
 // The rules of an accepted case, or the first test that applies.
-#[derive(Drop)]
+#[derive(Clone, Copy)]
 pub enum Answer {
     Named(Rules),
     Refused(Refusal),

@@ -1,11 +1,13 @@
 // The lines of a data file, the words of a line, and a sum of the file's bytes.
+#![tactic(auto)]
+
 ghost use Rattle.std.specs.Prelude.{◌≡◌, ◌+◌, ◌%◌, ◌^◌, ◌<◌, ◌≤◌, length, slice_index};
 ghost use Rattle.scan.specs.Words.{Between, Passed, largest, place_of, shifted as Words·shifted, spelled, past, word_at};
 
 pub mod sums;
 
 // A word: its first byte, the number that its digits spell, and the place after the byte that ends it.
-#[derive(Drop)]
+#[derive(Clone, Copy)]
 pub struct Word {
     pub lead: u8,
     pub value: u64,

@@ -1,6 +1,7 @@
 // The study sheet: the cases of a yard's receptors, up to 64, each at its place.
 // A refused operation hands the sheet back equal. Of every value of the type each operation ends, and does as on the list that it stands for.
 // The totals are kept up: right ones stay right, and those of the empty sheet are.
+#![tactic(auto)]
 ghost use Rattle.std.specs.Prelude.{◌≡◌, [], ◌≤◌, ◌<◌, length};
 ghost use Rattle.std.proofs.Math.Option.{none};
 ghost use Rattle.guidance.specs.CloudWords.{Heated};
@@ -25,7 +26,7 @@ pub struct Sheet {
 }
 
 // Why a case is not added, in the order of the tests: a fault of its own, then 7 and 17.
-#[derive(Drop)]
+#[derive(Clone, Copy)]
 pub enum Refusal {
     Faulty(Fault),
     Beyond,
@@ -34,7 +35,7 @@ pub enum Refusal {
 }
 
 // Why a place gives no case: 18.
-#[derive(Drop)]
+#[derive(Clone, Copy)]
 pub enum Vacancy {
     Vacant,
 }
@@ -47,7 +48,7 @@ pub enum Placing {
 }
 
 // The case at a place.
-#[derive(Drop)]
+#[derive(Clone, Copy)]
 pub enum Found {
     Held(Case),
     Refused(Vacancy),

@@ -7,9 +7,9 @@ use native.Mathlib.Omega.{arith}
 use lib.ListN.{length, drop, replicate, length-append}
 use lib.Seq.{length-sets}
 use borrow.Rule.Slice.PartMut.{mid_of, put_mid}
-use Rattle.bytes.specs.Numbers.{one, two, four, eight}
-use Rattle.bytes.specs.Storing.{Stored}
-use Rattle.bytes.specs.laws.Storing.{and_then, stored_as, through_part, at_start, sets_all}
+use Rattle.byte_numbers.specs.Numbers.{one, two, four, eight}
+use Rattle.byte_numbers.specs.Storing.{Stored}
+use Rattle.byte_numbers.specs.laws.Storing.{and_then, stored_as, through_part, at_start, sets_all}
 use Rattle.fields.specs.Bytes.{first_bytes}
 use Rattle.fields.specs.laws.Back.{first_length}
 use Rattle.places.specs.declared.Held.{Held}

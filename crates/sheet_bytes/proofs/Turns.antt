@@ -8,8 +8,8 @@ use native.Mathlib.Omega.{arith}
 use lib.ListN.{length, get_or, take, drop, set, length-set}
 use lib.Seq.{sets, length-sets, take_all, take-suc, take-suc-set, length-take-le}
 use borrow.Rule.Slice.PartMut.{put_mid}
-use Rattle.bytes.specs.Storing.{Stored}
-use Rattle.bytes.specs.laws.Storing.{and_then, whole_part}
+use Rattle.byte_numbers.specs.Storing.{Stored}
+use Rattle.byte_numbers.specs.laws.Storing.{and_then, whole_part}
 use Rattle.places.specs.declared.Held.{Held}
 use Rattle.places.specs.declared.Place.{Place}
 use Rattle.places.specs.declared.Places.{Places}

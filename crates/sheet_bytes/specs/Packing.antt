@@ -4,7 +4,7 @@ use Rattle.std.specs.Prelude.{ℕ, zero, suc, Bool, cond, List, [], ◌∷◌, �
 use Rattle.std.proofs.Math.Option.{Option, none, some}
 use Rattle.guidance.specs.declared.Case.{Case}
 use Rattle.guidance.specs.AirPressure.{standard, in_air}
-use Rattle.bytes.specs.Numbers.{one_at, two_at, four_at, one, two, four}
+use Rattle.byte_numbers.specs.Numbers.{one_at, two_at, four_at, one, two, four}
 use Rattle.fields.specs.Bytes.{fields_of, first_bytes}
 use Rattle.places.specs.declared.Held.{Held}
 use Rattle.places.specs.Holes.{trim}

@@ -1,4 +1,5 @@
 // The places of a study sheet in bytes: 32 each, one after the other.
+#![tactic(auto)]
 ghost use Rattle.std.specs.Prelude.{◌≡◌, ◌≤◌, length, replicate};
 ghost use Rattle.std.proofs.lemmas.List.Edits.{sets};
 ghost use Rattle.places.specs.Places.{holds, contents, stands_for};
@@ -16,10 +17,10 @@ fn clear(s: &mut [u8])
     requires { length s.old ≡ 32 }
     ensures { s.new ≡ replicate 32 0 }
 {
-    bytes::put_eight(s, 0, 0);
-    bytes::put_eight(s, 8, 0);
-    bytes::put_eight(s, 16, 0);
-    bytes::put_eight(s, 24, 0);
+    byte_numbers::put_eight(s, 0, 0);
+    byte_numbers::put_eight(s, 8, 0);
+    byte_numbers::put_eight(s, 16, 0);
+    byte_numbers::put_eight(s, 24, 0);
 }
 
 // The air pressure as a place keeps it.
@@ -45,11 +46,11 @@ fn put_place(s: &mut [u8], p: Place)
     match content {
         Content::Hole => {}
         Content::Taken(h) => {
-            bytes::put_one(s, 0, 1);
+            byte_numbers::put_one(s, 0, 1);
             let case = h.case;
             fields::write_first(&mut s[1..23], case);
-            bytes::put_four(s, 23, h.upper);
-            bytes::put_two(s, 27, air_word(case.air));
+            byte_numbers::put_four(s, 23, h.upper);
+            byte_numbers::put_two(s, 27, air_word(case.air));
         }
     }
 }
@@ -65,8 +66,8 @@ fn place_of(s: &[u8]) -> Place
         };
     }
     let mut case = fields::read(&s[1..23]);
-    case.air = air_of_word(bytes::two_at(s, 27));
-    let upper = bytes::four_at(s, 23);
+    case.air = air_of_word(byte_numbers::two_at(s, 27));
+    let upper = byte_numbers::four_at(s, 23);
     Place {
         content: Content::Taken(Held { case, upper }),
     }

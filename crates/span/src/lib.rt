@@ -1,11 +1,13 @@
 // Positive intervals on machine words: two mantissas, one biased exponent, every rounding outward.
 // All operations are exact u64 arithmetic followed by `cut`, the one place that rounds.
+#![tactic(auto)]
+
 ghost use Rattle.std.specs.Prelude.{◌≡◌, ◌+◌, ◌*◌, ◌-◌, ◌^◌, ◌≤◌, ◌<◌};
 ghost use Rattle.span.specs.Spans.{Normal, Whole, FractionOf, Factors, Product, Divisible, DivisibleBy, Quotient, WholeQuotient, Summands, Sum, Floor, Ceiling, Subtractable, Difference, Smaller, below};
 ghost use Rattle.span.specs.Rounding.{Cuttable, Roundable, Rounded, Aligned, ShiftedDown, ShiftedUp, Ratio, Compared};
 
 // The numbers from lo·2^e / 2^1024 to hi·2^e / 2^1024.
-#[derive(Drop)]
+#[derive(Clone, Copy)]
 pub struct Span {
     pub lo: u64,
     pub hi: u64,

@@ -1,4 +1,5 @@
 // The way back to the old form: a case frame, its tests, and the line of 116 upper-case digits that it gives.
+#![tactic(auto)]
 ghost use Rattle.std.specs.Prelude.{◌≡◌, ◌≤◌, length};
 ghost use Rattle.std.proofs.lemmas.List.Edits.{sets};
 ghost use Rattle.guidance.specs.Cases.{Fields};
@@ -15,7 +16,7 @@ use refusals::Fault;
 const LINE: usize = 116;
 
 // Why a frame has no old line, in the order of the tests: a fault of its own, then 19 and 8.
-#[derive(Drop)]
+#[derive(Clone, Copy)]
 pub enum Refusal {
     Faulty(Fault),
     // the air pressure is not the standard one
@@ -24,7 +25,7 @@ pub enum Refusal {
 }
 
 // What becomes of a frame that goes back.
-#[derive(Drop)]
+#[derive(Clone, Copy)]
 pub enum Verdict {
     Accepted(Case),
     Refused(Refusal),

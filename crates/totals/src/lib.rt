@@ -1,5 +1,6 @@
 // The totals of a study sheet: how many cases, the greatest upper end, and the first place that has it.
 // Right totals are kept right as a case comes or goes.
+#![tactic(auto)]
 ghost use Rattle.std.specs.Prelude.{◌<◌, ◌≡◌, []};
 ghost use Rattle.places.specs.Places.{holds, stands_for};
 ghost use Rattle.totals.specs.Totals.{totals_of};
@@ -7,7 +8,7 @@ ghost use Rattle.totals.specs.Keeping.{including, including_any, after_adding, a
 
 use places::{Content, Held, Place, Places};
 
-#[derive(Drop)]
+#[derive(Clone, Copy)]
 pub struct Totals {
     pub cases: usize,
     // Pa

@@ -6,7 +6,7 @@ use mathlib.Core.List.{List}
 use lib.Dec.{eqb}
 use lib.ListN.{get_or}
 use borrow.Author.Tests.{lt-ltb, le-ltb}
-use Rattle.bytes.specs.Numbers.{two_at, four_at}
+use Rattle.byte_numbers.specs.Numbers.{two_at, four_at}
 use Rattle.scan.specs.declared.Word.{Word}
 use Rattle.vectors.specs.declared.bounds.Held.{Held}
 use Rattle.vectors.specs.declared.judging.Vector.{Vector}

@@ -1,6 +1,6 @@
 -- A figure of an answer between two numbers of the data, as document 01 calls it near or a paper prints it.
 use Rattle.std.specs.Prelude.{ℕ, ◌+◌, ◌*◌, Bool, false, ◌&&◌, cond, List, eqb, leb, ltb}
-use Rattle.bytes.specs.Numbers.{two_at, four_at}
+use Rattle.byte_numbers.specs.Numbers.{two_at, four_at}
 use Rattle.scan.specs.declared.Word.{Word}
 use Rattle.scan.specs.Words.{word_at}
 use Rattle.vectors.specs.declared.bounds.Held.{Held}

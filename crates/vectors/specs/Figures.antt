@@ -1,6 +1,6 @@
 -- When a figure of an answer is right by the value of the data (document 01, "The answer frame", "Probits and damage"; request 10).
 use Rattle.std.specs.Prelude.{ℕ, zero, suc, ◌+◌, ◌*◌, ◌-◌, Bool, ◌&&◌, cond, List, eqb, leb, ltb, get_or}
-use Rattle.bytes.specs.Numbers.{two_at, four_at}
+use Rattle.byte_numbers.specs.Numbers.{two_at, four_at}
 
 -- lower ≤ value ≤ upper: the ends count units, the value counts parts of which a unit has `unit`
 unfoldable pub contained : (lower upper value unit : ℕ) → Bool

@@ -7,7 +7,7 @@ use crate::figures;
 use scan::Word;
 
 // Whether a figure lies between two numbers, and its ends, raised by 200,000.
-#[derive(Drop)]
+#[derive(Clone, Copy)]
 pub struct Held {
     pub near: bool,
     pub lower: u64,
@@ -20,9 +20,9 @@ fn end_at(area: &[u8; 80], i: usize, word: usize, half: usize) -> u64
     ensures { (result ≡ end_at area.now i word half) × (result < 4295167296) }
 {
     if i < 7 {
-        return figures::raised_word(bytes::four_at(area, word + 8 * i));
+        return figures::raised_word(byte_numbers::four_at(area, word + 8 * i));
     }
-    200000 + bytes::two_at(area, half + 4 * i)
+    200000 + byte_numbers::two_at(area, half + 4 * i)
 }
 
 // Whether two raised ends lie between the numbers of two words.

@@ -121,13 +121,13 @@ pub(crate) fn is_right(area: &[u8; 80], i: usize, lead: u8, value: u64, table: &
     requires { (i < 7) × (value ≤ largest) }
     ensures { result ≡ right area.now i lead value table.now }
 {
-    let lower = bytes::four_at(area, 1 + 8 * i);
-    let upper = bytes::four_at(area, 5 + 8 * i);
+    let lower = byte_numbers::four_at(area, 1 + 8 * i);
+    let upper = byte_numbers::four_at(area, 5 + 8 * i);
     if i < 2 {
         return is_wave(lower, upper, value);
     }
-    let first = bytes::two_at(area, 49 + 4 * i);
-    let second = bytes::two_at(area, 51 + 4 * i);
+    let first = byte_numbers::two_at(area, 49 + 4 * i);
+    let second = byte_numbers::two_at(area, 51 + 4 * i);
     let less = raised_word(lower);
     let more = raised_word(upper);
     let holds = is_probit(less, more, raised(200000000000000, lead, value));

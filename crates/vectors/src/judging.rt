@@ -12,7 +12,7 @@ pub const FILL: u8 = 170;
 pub const NO_FRAME: u64 = 9;
 
 // A vector: the bytes lent for the answer, whether the case is to be accepted, its range or its refusal, where its values start and where its line does.
-#[derive(Drop)]
+#[derive(Clone, Copy)]
 pub struct Vector {
     pub room: usize,
     pub accepted: bool,
@@ -22,7 +22,7 @@ pub struct Vector {
 }
 
 // What a vector's answers show: whether the case is to be accepted, whether its frame was answered as its line, and whether there is a fault.
-#[derive(Drop)]
+#[derive(Clone, Copy)]
 pub struct Finding {
     pub accepted: bool,
     pub alike: bool,

@@ -1,4 +1,5 @@
 // A case that is to be written: why it is not, a fault of its own or an area too short; else its frame.
+#![tactic(auto)]
 ghost use Rattle.std.specs.Prelude.{◌≡◌};
 ghost use Rattle.refusals.specs.Faults.{filled};
 ghost use Rattle.writable.specs.Refusals.{number, code, word};
@@ -9,14 +10,14 @@ use guidance::Case;
 use limits::Checked;
 use refusals::Fault;
 
-#[derive(Drop)]
+#[derive(Clone, Copy)]
 pub enum Refusal {
     Faulty(Fault),
     Space,
 }
 
 // What becomes of a case that is to be written.
-#[derive(Drop)]
+#[derive(Clone, Copy)]
 pub enum Verdict {
     Accepted(Case),
     Refused(Refusal),

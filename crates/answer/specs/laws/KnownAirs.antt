@@ -16,7 +16,7 @@ use Rattle.guidance.specs.laws.Known as known
 use Rattle.refusals.specs.declared.Fault.TheVariants.{Substance, Heat}
 use Rattle.refusals.specs.Order.{first_of}
 use Rattle.fields.specs.Bytes.{air_in, fields_of, settings, first_bytes, frame_bytes}
-use Rattle.bytes.specs.Numbers.{one}
+use Rattle.byte_numbers.specs.Numbers.{one}
 use Rattle.limits.specs.Tests.{quantity_outside, heat_missing, value_tests, field_tests}
 use Rattle.limits.specs.declared.Checked.{Checked}
 use Rattle.limits.specs.laws.Limits.{not_outside}

@@ -1,6 +1,6 @@
 -- The orders and signs of fractions are decidable: what each decision answers is said whole by its type. Assumes nothing.
 use Rattle.std.specs.Prelude.{suc, ◌+◌, ◌*◌}
-use Rattle.std.proofs.Math.Logic.{Dec·and}
+use Rattle.std.proofs.Math.Logic.Dec
 use Rattle.std.proofs.Math.Decide.{dec_le}
 use Rattle.exact.specs.Fraction.{Ratio, Above0, Frac, ◌⊑◌, Positive}
 
@@ -16,7 +16,7 @@ unfoldable pub dec_positive : (x : Frac) → Dec (Positive x)
 dec_positive x = elim (dec_le (suc x.minus) x.plus) [ yes h ↦ yes (record { above = h }) | no h ↦ no (λ l. h l.above) ]
 
 unfoldable pub dec_positives : (x y : Frac) → Dec (Positive x × Positive y)
-dec_positives x y = Dec·and (dec_positive x) (dec_positive y)
+dec_positives x y = Dec.and (dec_positive x) (dec_positive y)
 
 -- Laws of what a decision chooses, by cases
 

@@ -1,7 +1,7 @@
 -- Brackets worked by hand from 01, "What exact means": a table, computed by the checker. Assumes nothing.
 use Rattle.std.specs.Prelude.{ℕ, suc, ◌-◌, ◌≡◌, refl, Bool, true, false, ◌&&◌, List, [], ◌∷◌}
 use Rattle.std.proofs.lemmas.Bool.{false≢true}
-use Rattle.std.proofs.Math.Logic.{Dec·and}
+use Rattle.std.proofs.Math.Logic.Dec
 use Rattle.std.proofs.Math.Option.{Option, none, some}
 use Rattle.std.proofs.Math.Decide.{dec_le}
 use Rattle.std.proofs.Common.{arith}
@@ -108,7 +108,7 @@ all_true (x ∷ xs) e =
     (agrees_true _ _ b.0, all_true xs b.1)
 
 computed : all_agree table ≡ true
-unfolding table has lacks little straddling number frac all_agree agrees inside bracket_at lift ◌>>◌ quotient_b ln_b exp_b over_pairs quotients smaller larger dec_f dec_positive dec_positives Dec·and dec_above0 dec_le ln_lower_at ln_upper_at ln_lower ln_upper ln2_lower ln2_upper exponent climb fraction argument third series_lower series_upper ln_term ln_tail gap one_over even exp_lower_at exp_upper_at exp_upper_of one_over_of exp_lower exp_upper exp_term exp_tail factorial power sum recip whole ◌⊕◌ ◌⊗◌ ◌⊖◌ of_ratio zero_f one_f magnitude ◌⊞◌ neg ◌⊟◌ ◌⊠◌ inverse
+unfolding table has lacks little straddling number frac all_agree agrees inside bracket_at lift ◌>>◌ quotient_b ln_b exp_b over_pairs quotients smaller larger dec_f dec_positive dec_positives Dec.and dec_above0 dec_le ln_lower_at ln_upper_at ln_lower ln_upper ln2_lower ln2_upper exponent climb fraction argument third series_lower series_upper ln_term ln_tail gap one_over even exp_lower_at exp_upper_at exp_upper_of one_over_of exp_lower exp_upper exp_term exp_tail factorial power sum recip whole ◌⊕◌ ◌⊗◌ ◌⊖◌ of_ratio zero_f one_f magnitude ◌⊞◌ neg ◌⊟◌ ◌⊠◌ inverse
 computed = refl
 
 worked : Worked table

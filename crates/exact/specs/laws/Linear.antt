@@ -61,6 +61,7 @@ data In (x : Ratio) : List Ratio → Type 0 where
 
 scaled : (xs : List Ratio) {x : Ratio} → In x xs → Scaled (common xs) x
 unfolding common
+scaled [] i = elim i [ ]
 scaled (y ∷ xs) first = here y (common xs)
 scaled (y ∷ xs) (later i) = wider _ y (common xs) (scaled xs i)
 

@@ -2,8 +2,8 @@
 use Rattle.std.specs.Prelude.{ℕ, ◌≤◌, ◌≡◌, refl, Bool, true, false, cond, List, [], ◌++◌, T, eqb, length, take}
 use Rattle.std.proofs.Common.{sym, ap, ◌∙◌, append-nil, lt_of_le_of_lt, arith, lit<, eqb-true, eq-eqb, ne_eqb}
 use Rattle.std.proofs.Math.Pow.{are_bytes}
-use Rattle.bytes.specs.Numbers.{one_at, two_at, one, two, four}
-use Rattle.bytes.specs.laws.Back.{one_back, two_back, four_back, one_read, two_read, four_read, listed, as_listed, append_bytes, one_bytes, two_bytes, four_bytes}
+use Rattle.byte_numbers.specs.Numbers.{one_at, two_at, one, two, four}
+use Rattle.byte_numbers.specs.laws.Back.{one_back, two_back, four_back, one_read, two_read, four_read, listed, as_listed, append_bytes, one_bytes, two_bytes, four_bytes}
 use Rattle.guidance.specs.declared.Case.{Case}
 use Rattle.guidance.specs.AirPressure.{standard, in_air}
 use Rattle.guidance.specs.Cases.{Fields}

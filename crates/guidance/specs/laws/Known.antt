@@ -3,7 +3,7 @@
 use Rattle.std.specs.Prelude.{ℕ, zero, suc, ◌*◌, ◌≤◌, ◌<◌, ◌≡◌, refl, Bool, ◌&&◌, eqb}
 use Rattle.std.proofs.Common.{sym, mul-le-mul, le_refl}
 use Rattle.std.proofs.Math.Bool.{true, false, cond}
-use Rattle.std.proofs.Math.Logic.{Dec·and}
+use Rattle.std.proofs.Math.Logic.Dec
 use Rattle.std.proofs.Math.Option.{Option, none, some}
 use Rattle.std.proofs.Math.Decide.{dec_le}
 use native.Mathlib.Omega.{arith}
@@ -60,7 +60,7 @@ record Computed : Type 0 where
   kilograms_6 : inside (bracket_at (front_speed_of 6 64000) 4) (record { lo = of_ratio (whole 51); hi = of_ratio (whole 53) }) ≡ true
 
 computed : Computed
-unfolding aerosol_pressure unit_distance front_speed_of slow_front range_end metres inside bracket_at lift ◌>>◌ quotient_b ln_b exp_b over_pairs quotients smaller larger dec_f dec_positive dec_positives Dec·and dec_above0 dec_le ln_lower_at ln_upper_at ln_lower ln_upper ln2_lower ln2_upper exponent climb fraction argument third series_lower series_upper ln_term ln_tail gap one_over even exp_lower_at exp_upper_at exp_upper_of one_over_of exp_lower exp_upper exp_term exp_tail factorial power sum recip whole ◌⊕◌ ◌⊗◌ ◌⊖◌ of_ratio zero_f one_f magnitude ◌⊞◌ neg ◌⊟◌ ◌⊠◌ inverse
+unfolding aerosol_pressure unit_distance front_speed_of slow_front range_end metres inside bracket_at lift ◌>>◌ quotient_b ln_b exp_b over_pairs quotients smaller larger dec_f dec_positive dec_positives Dec.and dec_above0 dec_le ln_lower_at ln_upper_at ln_lower ln_upper ln2_lower ln2_upper exponent climb fraction argument third series_lower series_upper ln_term ln_tail gap one_over even exp_lower_at exp_upper_at exp_upper_of one_over_of exp_lower exp_upper exp_term exp_tail factorial power sum recip whole ◌⊕◌ ◌⊗◌ ◌⊖◌ of_ratio zero_f one_f magnitude ◌⊞◌ neg ◌⊟◌ ◌⊠◌ inverse
 computed = record { metre = refl; tonnes_5 = refl; tonnes_6 = refl; kilograms_5 = refl; kilograms_6 = refl }
 
 -- the pressures of Q where E is P0: 18·P0 at 19 cm; 0.285 and 0.285·P0 of the heterogeneous one at 100 cm

@@ -3,7 +3,7 @@ use Rattle.std.specs.Prelude.{ℕ, suc, ◌+◌, ◌*◌, ◌/◌, ◌%◌, ◌<
 use Rattle.std.proofs.Common.{sym, ap, ◌∙◌, add-one, arith, take_all, length-take-le, take-suc}
 use Rattle.std.proofs.lemmas.List.Edits.{sets}
 use Rattle.std.proofs.Math.Seq.{length-sets}
-use Rattle.bytes.specs.laws.Storing.{sets_sets, at_start}
+use Rattle.byte_numbers.specs.laws.Storing.{sets_sets, at_start}
 use Rattle.hexadecimals.specs.Written.{upper, digits_of}
 
 pub digits_append : (a b : List ℕ) → digits_of (a ++ b) ≡ digits_of a ++ digits_of b

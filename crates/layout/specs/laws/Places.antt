@@ -1,6 +1,6 @@
 -- How many bytes an answer has. Assumes nothing.
 use Rattle.std.specs.Prelude.{ℕ, ◌≡◌, refl, length}
-use Rattle.bytes.specs.Numbers.{two, four}
+use Rattle.byte_numbers.specs.Numbers.{two, four}
 use Rattle.layout.specs.declared.Ends.{Ends}
 use Rattle.layout.specs.declared.Probits.{Probits}
 use Rattle.layout.specs.declared.Damages.{Damages}

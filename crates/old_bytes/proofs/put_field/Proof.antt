@@ -5,8 +5,8 @@ use mathlib.Core.List.{◌++◌}
 use lib.Dec.{T}
 use lib.Ieee.{Float, binary64, is_nan, to_bits}
 use borrow.Author.Rules.{rules}
-use Rattle.bytes.specs.Numbers.{one, eight}
-use Rattle.bytes.specs.laws.Storing.{and_then, stored_as}
+use Rattle.byte_numbers.specs.Numbers.{one, eight}
+use Rattle.byte_numbers.specs.laws.Storing.{and_then, stored_as}
 use Rattle.doubles.specs.laws.Values.{no_nan, usable_finite}
 use Rattle.old_case.specs.Fields.{value_of}
 use Rattle.old_bytes.specs.Bytes.{field_bytes}

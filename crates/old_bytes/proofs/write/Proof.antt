@@ -1,8 +1,8 @@
 -- `old_bytes::write` meets its contract: each part is stored after the one before. Assumes nothing.
 use mathlib.Core.Path.{refl}
 use borrow.Author.Rules.{rules}
-use Rattle.bytes.specs.Numbers.{one, four, eight}
-use Rattle.bytes.specs.laws.Storing.{and_then}
+use Rattle.byte_numbers.specs.Numbers.{one, four, eight}
+use Rattle.byte_numbers.specs.laws.Storing.{and_then}
 use Rattle.fields.specs.Bytes.{settings}
 use Rattle.old_bytes.specs.Bytes.{field_bytes, old_bytes}
 use Rattle.old_case.specs.laws.Usable.{usable}

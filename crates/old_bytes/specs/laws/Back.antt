@@ -7,9 +7,9 @@ use Rattle.std.specs.Float.{binary64}
 use Rattle.std.specs.Float.Ieee.{fits, of_bits, to_bits}
 use Rattle.std.specs.Float.Ieee.Bits.{of_bits-to_bits, of_bits-fits, to_bits-lt, to_bits-of_bits}
 use Rattle.std.proofs.lemmas.Bool.{not-false}
-use Rattle.bytes.specs.Numbers.{one_at, eight_at, one, four, eight}
-use Rattle.bytes.specs.laws.Storing.{sets_all}
-use Rattle.bytes.specs.laws.Back.{byte_at, one_back, eight_back, joined, one_read, eight_read, eight_at_lt, as_listed, append_bytes, one_bytes, eight_bytes}
+use Rattle.byte_numbers.specs.Numbers.{one_at, eight_at, one, four, eight}
+use Rattle.byte_numbers.specs.laws.Storing.{sets_all}
+use Rattle.byte_numbers.specs.laws.Back.{byte_at, one_back, eight_back, joined, one_read, eight_read, eight_at_lt, as_listed, append_bytes, one_bytes, eight_bytes}
 use Rattle.fields.specs.Bytes.{settings}
 use Rattle.fields.specs.laws.Back.{settings_read, settings_bytes}
 use Rattle.refusals.specs.laws.Order.{none_of}

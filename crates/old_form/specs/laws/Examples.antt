@@ -4,7 +4,7 @@ use Rattle.std.specs.Float.Ieee.{of_bits, to_bits, lt, of_int, round}
 use Rattle.refusals.specs.declared.Fault.TheVariants.{Length, Digit, Substance, Quantity, Heat}
 use Rattle.refusals.specs.Order.{first_of, held}
 use Rattle.guidance.specs.Substances.{betas, beta_of}
-use Rattle.bytes.specs.Numbers.{one, four, eight}
+use Rattle.byte_numbers.specs.Numbers.{one, four, eight}
 use Rattle.hexadecimals.specs.Digits.{digit_of, all_digits, bytes_of}
 use Rattle.hexadecimals.specs.Written.{upper, digits_of}
 use Rattle.fields.specs.Bytes.{air_in, fields_of, settings}

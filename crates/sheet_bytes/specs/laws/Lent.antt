@@ -4,7 +4,7 @@ use Rattle.std.proofs.Common.{sym, ap, ◌∙◌, arith, not-suc-le-zero, length
 use Rattle.std.proofs.Math.Option.{Option, none, some}
 use Rattle.std.proofs.lemmas.List.{replicate-append-replicate}
 use Rattle.std.proofs.lemmas.List.Edits.{sets}
-use Rattle.bytes.specs.laws.Storing.{at_start}
+use Rattle.byte_numbers.specs.laws.Storing.{at_start}
 use Rattle.places.specs.declared.Held.{Held}
 use Rattle.places.specs.declared.Places.{Places}
 use Rattle.places.specs.Holes.{ahead, trim, Plain, Each}

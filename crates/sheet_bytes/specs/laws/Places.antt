@@ -4,8 +4,8 @@ use Rattle.std.proofs.Common.{sym, ap, ◌∙◌, append_assoc, append-nil, arit
 use Rattle.std.proofs.Math.Option.{Option, none, some}
 use Rattle.guidance.specs.AirPressure.{standard, in_air}
 use Rattle.guidance.specs.Cases.{Fields}
-use Rattle.bytes.specs.Numbers.{one_at, four_at, one, two, four}
-use Rattle.bytes.specs.laws.Back.{two_back, four_back}
+use Rattle.byte_numbers.specs.Numbers.{one_at, four_at, one, two, four}
+use Rattle.byte_numbers.specs.laws.Back.{two_back, four_back}
 use Rattle.fields.specs.Bytes.{fields_of, settings, first_bytes}
 use Rattle.fields.specs.laws.Back.{fields_in_air}
 use Rattle.places.specs.declared.Held.{Held}

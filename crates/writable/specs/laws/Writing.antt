@@ -4,7 +4,7 @@ use Rattle.std.proofs.Common.{sym, ap, subst, ◌∙◌, arith, ltb-false}
 use Rattle.std.proofs.Math.Option.{Option, none, some}
 use Rattle.std.proofs.lemmas.List.Edits.{sets}
 use Rattle.std.proofs.Math.Seq.{take-append_seam}
-use Rattle.bytes.specs.laws.Storing.{at_start}
+use Rattle.byte_numbers.specs.laws.Storing.{at_start}
 use Rattle.guidance.specs.declared.Case.{Case}
 use Rattle.refusals.specs.declared.Fault.{Fault}
 use Rattle.refusals.specs.Order.{Test, first_of}

@@ -7,7 +7,7 @@ use lib.ListN.{length, replicate, length-replicate}
 use lib.Seq.{sets}
 use borrow.Author.Rules.{rules}
 use Rattle.guidance.specs.declared.Case.{Case}
-use Rattle.bytes.specs.laws.Storing.{sets_all}
+use Rattle.byte_numbers.specs.laws.Storing.{sets_all}
 use Rattle.hexadecimals.specs.Written.{digits_of}
 use Rattle.hexadecimals.specs.laws.Writing.{length_digits}
 use Rattle.fields.specs.Bytes.{frame_bytes}

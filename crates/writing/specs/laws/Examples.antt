@@ -3,7 +3,7 @@ use Rattle.std.specs.Prelude.{ℕ, ◌≡◌, refl, List, [], ◌∷◌}
 use Rattle.guidance.specs.declared.Case.{Case}
 use Rattle.guidance.specs.AirPressure.{standard, in_air}
 use Rattle.guidance.specs.Substances.{betas, beta_of, heat_of}
-use Rattle.bytes.specs.Numbers.{one, two, four}
+use Rattle.byte_numbers.specs.Numbers.{one, two, four}
 use Rattle.hexadecimals.specs.Digits.{digit_of, all_digits, bytes_of}
 use Rattle.hexadecimals.specs.Written.{upper, digits_of}
 use Rattle.refusals.specs.declared.Fault.TheVariants.{Substance, Quantity, Heat}

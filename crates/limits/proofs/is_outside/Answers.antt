@@ -1,0 +1,11 @@
+-- `limits::is_outside` meets its contract, by its two comparisons. Assumes nothing.
+use borrow.Author.Tests.{le-leb, lt-leb}
+use Rattle.limits.proofs.is_outside.Goals as goal
+
+pub returns-then-least-x : goal.returns-then-least-x
+returns-then-least-x c =
+    simp (le-leb _ _ c.if-least-x.true)
+
+pub returns-else-least-x : goal.returns-else-least-x
+returns-else-least-x c =
+    simp (lt-leb _ _ c.if-least-x.false)
