@@ -1,5 +1,6 @@
 // The entries: a case, as a frame's bytes or as a line, is answered into a lent area of at least 77 bytes, or refused.
 #![tactic(auto)]
+
 ghost use Rattle.std.specs.Prelude.{◌≡◌};
 ghost use Rattle.guidance.specs.Cases.{Accepted};
 ghost use Rattle.guidance.specs.AirPressure.{air_of};

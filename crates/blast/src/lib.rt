@@ -1,6 +1,7 @@
 // Overpressure and impulse of an accepted case: intervals around the exact values, and whole numbers around these.
 // Branches are taken by the exact tests of `guidance` alone; each function follows its formula operation by operation.
 #![tactic(auto)]
+
 ghost use Rattle.std.specs.Prelude.{◌^◌, ◌<◌};
 ghost use Rattle.guidance.specs.Cases.{Air, Accepted};
 ghost use Rattle.guidance.specs.Waves.{reduced_distance, detonation_pressure, detonation_impulse, reduced_pressure, reduced_impulse, overpressure, impulse};

@@ -1,5 +1,6 @@
 // Frames stored by column: like beside like, for an archive that packs them; and turned back.
 #![tactic(auto)]
+
 ghost use Rattle.std.specs.Prelude.{◌≡◌, ◌*◌, ◌<◌, length};
 ghost use Rattle.refusals.specs.Faults.{filled};
 ghost use Rattle.columns.specs.Transposed.{column, transposed};

@@ -1,6 +1,7 @@
 // ln, e^, product and quotient of intervals for C. Whole intervals go in and come back; what an operation does not take is refused by
 // `false`, and the lent numbers stay as they were.
 #![tactic(auto)]
+
 mod asked;
 
 ghost use Rattle.enclosure_linked.specs.Intervals.{span_of, log_of};

@@ -1,5 +1,6 @@
 // The case frame and the line that spells it: refusals in their order, the verdict.
 #![tactic(auto)]
+
 ghost use Rattle.std.specs.Prelude.{◌≡◌, ◌||◌, eqb};
 ghost use Rattle.guidance.specs.CloudWords.{Heated};
 ghost use Rattle.refusals.specs.Faults.{filled};

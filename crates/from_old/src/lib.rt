@@ -1,5 +1,6 @@
 // The way in from the old form: a line of 116 hexadecimal digits, its tests, and the case frame that it gives.
 #![tactic(auto)]
+
 ghost use Rattle.std.specs.Prelude.{◌≡◌, false, length};
 ghost use Rattle.refusals.specs.Faults.{filled};
 ghost use Rattle.old_case.specs.Cases.{unusable_in};

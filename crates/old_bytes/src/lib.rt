@@ -1,5 +1,6 @@
 // The 58 bytes of an old case: four settings, then six fields of a tag and a double, high byte first.
 #![tactic(auto)]
+
 ghost use Rattle.std.specs.Prelude.{◌≡◌, false, ◌+◌, ◌≤◌, length};
 ghost use Rattle.std.proofs.lemmas.List.Edits.{sets};
 ghost use Rattle.byte_numbers.specs.Storing.{Stored};

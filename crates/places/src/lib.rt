@@ -29,7 +29,7 @@ pub struct Place {
 }
 
 // Place k is element k - 1.
-#[derive(Drop)]
+#[derive(Clone, Copy)]
 pub struct Places {
     pub all: [Place; 64],
 }

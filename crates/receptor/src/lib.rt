@@ -1,5 +1,6 @@
 // A case at another distance than its own.
 #![tactic(auto)]
+
 ghost use Rattle.std.specs.Prelude.{◌≡◌};
 ghost use Rattle.guidance.specs.Cases.{Air};
 ghost use Rattle.guidance.specs.CloudWords.{Heated};

@@ -2,6 +2,7 @@
 // A refused operation hands the sheet back equal. Of every value of the type each operation ends, and does as on the list that it stands for.
 // The totals are kept up: right ones stay right, and those of the empty sheet are.
 #![tactic(auto)]
+
 ghost use Rattle.std.specs.Prelude.{◌≡◌, [], ◌≤◌, ◌<◌, length};
 ghost use Rattle.std.proofs.Math.Option.{none};
 ghost use Rattle.guidance.specs.CloudWords.{Heated};
@@ -19,7 +20,7 @@ use places::{Content, Held, Places};
 use refusals::Fault;
 use totals::Totals;
 
-#[derive(Drop)]
+#[derive(Clone, Copy)]
 pub struct Sheet {
     pub places: Places,
     pub totals: Totals,
@@ -41,7 +42,7 @@ pub enum Vacancy {
 }
 
 // The place of a case that was added, or the first test that applies.
-#[derive(Drop)]
+#[derive(Clone, Copy)]
 pub enum Placing {
     At(usize),
     Refused(Refusal),
@@ -55,21 +56,21 @@ pub enum Found {
 }
 
 // What adding hands back.
-#[derive(Drop)]
+#[derive(Clone, Copy)]
 pub struct Added {
     pub sheet: Sheet,
     pub answer: Placing,
 }
 
 // What withdrawing hands back: with the sheet, the case that was withdrawn.
-#[derive(Drop)]
+#[derive(Clone, Copy)]
 pub struct Withdrawn {
     pub sheet: Sheet,
     pub answer: Found,
 }
 
 // What closing hands back: with the sheet, the number of its cases.
-#[derive(Drop)]
+#[derive(Clone, Copy)]
 pub struct Closed {
     pub sheet: Sheet,
     pub answer: usize,

@@ -1,5 +1,6 @@
 // The places of a study sheet in bytes: 32 each, one after the other.
 #![tactic(auto)]
+
 ghost use Rattle.std.specs.Prelude.{◌≡◌, ◌≤◌, length, replicate};
 ghost use Rattle.std.proofs.lemmas.List.Edits.{sets};
 ghost use Rattle.places.specs.Places.{holds, contents, stands_for};

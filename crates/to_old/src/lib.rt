@@ -1,5 +1,6 @@
 // The way back to the old form: a case frame, its tests, and the line of 116 upper-case digits that it gives.
 #![tactic(auto)]
+
 ghost use Rattle.std.specs.Prelude.{◌≡◌, ◌≤◌, length};
 ghost use Rattle.std.proofs.lemmas.List.Edits.{sets};
 ghost use Rattle.guidance.specs.Cases.{Fields};

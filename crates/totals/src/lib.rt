@@ -1,6 +1,7 @@
 // The totals of a study sheet: how many cases, the greatest upper end, and the first place that has it.
 // Right totals are kept right as a case comes or goes.
 #![tactic(auto)]
+
 ghost use Rattle.std.specs.Prelude.{◌<◌, ◌≡◌, []};
 ghost use Rattle.places.specs.Places.{holds, stands_for};
 ghost use Rattle.totals.specs.Totals.{totals_of};

@@ -1,6 +1,7 @@
 // The wave formulas on intervals: reduced pressure and impulse of detonation and deflagration over the reduced distance R.
 // Each function follows its formula operation by operation.
 #![tactic(auto)]
+
 ghost use Rattle.exact.specs.Fraction.{whole};
 ghost use Rattle.guidance.specs.Waves.{number, range_end, slow_front, front_speed_of};
 ghost use Rattle.waves.specs.Detonation.{Distance, AerosolPressure, AerosolImpulse};

@@ -1,5 +1,6 @@
 // A case that is to be written: why it is not, a fault of its own or an area too short; else its frame.
 #![tactic(auto)]
+
 ghost use Rattle.std.specs.Prelude.{◌≡◌};
 ghost use Rattle.refusals.specs.Faults.{filled};
 ghost use Rattle.writable.specs.Refusals.{number, code, word};

@@ -1,5 +1,6 @@
 // Writing frames: a frame from its fields, and the one spelling of a case.
 #![tactic(auto)]
+
 ghost use Rattle.std.specs.Prelude.{◌≡◌, ◌≤◌, length};
 ghost use Rattle.std.proofs.lemmas.List.Edits.{sets};
 ghost use Rattle.writable.specs.Steps.{needed_for, Written};

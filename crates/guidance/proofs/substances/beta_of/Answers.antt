@@ -4,9 +4,6 @@ use lib.ListN.{get_or-eq_default}
 use Rattle.guidance.specs.Substances.{betas, beta_of}
 use Rattle.guidance.proofs.substances.beta_of.Goals as goal
 
--- LEFT array-read-widened : tie.Need-array-read-widened
--- array-read-widened c = search rules
--- 
 pub returns-then-substance-lt76 : goal.returns-then-substance-lt76
 unfolding betas beta_of
 returns-then-substance-lt76 c =

@@ -1,0 +1,20 @@
+-- `answer::reading_of` meets its contract. Assumes nothing.
+use mathlib.Core.Path.{ap, ap₂, ◌∙◌}
+use Prim.Native.Nat.{ℕ}
+use Rattle.damage.specs.Damage.{damage}
+use Rattle.signed.specs.Reading.{back}
+use Rattle.answer.specs.Answer.{reading}
+use Rattle.answer.proofs.reading_of.Goals as goal
+
+pub damage_beside-upper-requires : goal.damage_beside-upper-requires
+damage_beside-upper-requires c =
+    c.damage_at-lower.ensures
+
+pub returns : goal.returns
+unfolding reading
+returns c =
+    let p = c.args.p in
+    let told = c.struct_told-1.given in
+    ap₂ (λ (a b : ℕ). record { lower = a; upper = b })
+    (c.damage_at-lower.ensures ∙ ap damage (back p.lower told.0.1))
+    (c.damage_beside-upper.ensures ∙ ap damage (back p.upper told.1.0.1))

@@ -1,0 +1,20 @@
+-- `answer::write` meets its contract. Assumes nothing.
+use mathlib.Core.Path.{ap, ◌∙◌}
+use native.Mathlib.Omega.{arith}
+use lib.Seq.{sets}
+use Rattle.layout.specs.declared.Damages.{Damages}
+use Rattle.layout.specs.Places.{answer_bytes}
+use Rattle.answer.proofs.Writing.{all_fit, wrote}
+use Rattle.answer.proofs.write.Goals as goal
+
+pub put_answer-requires : goal.put_answer-requires
+put_answer-requires c =
+    let h = c.figures_of-f.ensures in
+    record { in_bounds = omega (arith, c.requires.room); range_bound = omega (arith, h.small); fit = all_fit h }
+
+pub returns : goal.returns
+returns c =
+    let f = c.figures_of-f in
+    let d = c.readings_of-d in
+    wrote f.ensures c.args.area.now _ c.requires.room
+    (c.put_answer.ensures ∙ ap (λ (x : Damages). sets c.args.area.now 0 (answer_bytes f.result.range f.result.pressure f.result.impulse f.result.probits x)) d.ensures)

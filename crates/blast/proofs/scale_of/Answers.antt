@@ -1,0 +1,11 @@
+-- `blast::scale_of` meets its contract. Assumes nothing.
+use Rattle.blast.proofs.Finals.{energy_rootable, energy_root}
+use Rattle.blast.proofs.scale_of.Goals as goal
+
+pub cube_root-root-requires : goal.cube_root-root-requires
+cube_root-root-requires c =
+    energy_rootable c.requires c.energy-joules.ensures
+
+pub returns : goal.returns
+returns c =
+    record { power = c.air_power-power.ensures; root = energy_root c.requires c.energy-joules.ensures c.cube_root-root.ensures }

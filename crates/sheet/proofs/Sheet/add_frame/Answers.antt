@@ -1,0 +1,13 @@
+-- `sheet::Sheet::add_frame` meets its contract. Assumes nothing.
+use mathlib.Core.Path.{sym, ◌∙◌}
+use Rattle.frame.specs.laws.Checks.{frame_heated}
+use Rattle.sheet.specs.laws.Entering.{frame_adds}
+use Rattle.sheet.proofs.Sheet.add_frame.Goals as goal
+
+pub enter-requires : goal.enter-requires
+enter-requires c d e =
+    frame_heated _ d (sym c.check_frame-s.ensures ∙ e)
+
+pub returns : goal.returns
+returns c =
+    frame_adds c.args.frame.now c.check_frame-s.ensures c.enter.ensures

@@ -1,0 +1,13 @@
+-- `sheet::Sheet::add_line` meets its contract. Assumes nothing.
+use mathlib.Core.Path.{sym, ◌∙◌}
+use Rattle.frame.specs.laws.Checks.{line_heated}
+use Rattle.sheet.specs.laws.Entering.{line_adds}
+use Rattle.sheet.proofs.Sheet.add_line.Goals as goal
+
+pub enter-requires : goal.enter-requires
+enter-requires c d e =
+    line_heated _ d (sym c.check_line-s.ensures ∙ e)
+
+pub returns : goal.returns
+returns c =
+    line_adds c.args.line.now c.check_line-s.ensures c.enter.ensures

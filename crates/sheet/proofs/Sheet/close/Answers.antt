@@ -1,0 +1,7 @@
+-- `sheet::Sheet::close` meets its contract. Assumes nothing.
+use Rattle.sheet.specs.laws.Places.{closes}
+use Rattle.sheet.proofs.Sheet.close.Goals as goal
+
+pub returns : goal.returns
+returns c =
+    closes _ _ _ c.close-places.ensures c.last-count.ensures c.afresh-self.ensures
