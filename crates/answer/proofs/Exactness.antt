@@ -11,7 +11,7 @@ use Rattle.fixed.specs.Millis.{milli, millis}
 use Rattle.probits.specs.Promises.{Thousandth}
 use Rattle.layout.specs.declared.Probit.{Probit}
 use Rattle.exact.specs.Between.{whole_z}
-use Rattle.exact.specs.laws.Between.{between}
+use Rattle.exact.proofs.laws.Between.{between}
 use Rattle.answer.specs.Answer.{ProbitEnds}
 
 lower_milli : (z : ℤ) → whole_z z ⊑ whole_z (pos 1000) ⊠ milli z

@@ -5,10 +5,10 @@ use mathlib.Core.Bool.{Bool, true, false}
 use native.Mathlib.Omega.{arith}
 use Rattle.exact.specs.Fraction.{Ratio, ◌≈◌, whole, ◌⊗◌, of_ratio}
 use Rattle.exact.specs.Bracket.{Bracket}
-use Rattle.exact.specs.laws.Ratio.{to≼, from≼}
-use Rattle.exact.specs.laws.EndsMeet.{of_ratio_mono}
-use Rattle.exact.specs.laws.Points.{signed_product, product_signed}
-use Rattle.exact.specs.laws.Inclusion.{const_inside}
+use Rattle.exact.proofs.laws.Ratio.{to≼, from≼}
+use Rattle.exact.proofs.laws.EndsMeet.{of_ratio_mono}
+use Rattle.exact.proofs.laws.Points.{signed_product, product_signed}
+use Rattle.exact.proofs.laws.Inclusion.{const_inside}
 use Rattle.exact.specs.Holding.{◌∈◌}
 use Rattle.span.specs.declared.Span.{Span}
 use Rattle.span.specs.Spans.{hull, fraction, FractionOf, Constant, Factors, Product}

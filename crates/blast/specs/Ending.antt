@@ -4,8 +4,8 @@ use Rattle.std.proofs.Common.{arith, lt_of_mul-lt-mul_right}
 use Rattle.exact.specs.Fraction.{◌⊑◌, ◌⊠◌}
 use Rattle.exact.specs.Formula.{Formula}
 use Rattle.exact.specs.Between.{whole_z}
-use Rattle.exact.specs.laws.Meeting.{any_two_meet}
-use Rattle.exact.specs.laws.Between.{between}
+use Rattle.exact.proofs.laws.Meeting.{any_two_meet}
+use Rattle.exact.proofs.laws.Between.{between}
 use Rattle.span.specs.declared.Span.{Span}
 use Rattle.span.specs.Spans.{unit, whole_f}
 use Rattle.span.specs.Enclosing.{wider}

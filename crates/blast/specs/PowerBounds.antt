@@ -5,10 +5,10 @@ use native.Mathlib.Omega.{arith}
 use Rattle.std.proofs.Common.{mul-le-mul}
 use Rattle.exact.specs.Fraction.{Ratio, ◌≼◌, whole, ◌⊕◌, ◌⊗◌, ◌⊖◌, power, of_ratio}
 use Rattle.exact.specs.Series.{one_over}
-use Rattle.exact.specs.laws.Width.{half}
+use Rattle.exact.proofs.laws.Width.{half}
 use Rattle.exact.specs.Formula.{bracket_at}
-use Rattle.exact.specs.laws.Containment.{Inside}
-use Rattle.exact.specs.laws.Points.{pair}
+use Rattle.exact.proofs.laws.Containment.{Inside}
+use Rattle.exact.proofs.laws.Points.{pair}
 use Rattle.enclosure.specs.PowerWindows.{Reached, whole_reached, Bounded, power_between}
 use Rattle.guidance.specs.Clouds.{energy}
 use Rattle.guidance.specs.Waves.{number, raised, third, two_thirds, thousandths}

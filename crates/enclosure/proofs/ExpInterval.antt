@@ -6,20 +6,20 @@ use native.Mathlib.Nat.{mul-pos, mul-le-mul_right, le_of_mul-le-mul_right}
 use native.Mathlib.Omega.{arith}
 use lib.IntN.{ℤ, pos, negsuc}
 use Rattle.exact.specs.Fraction.{Ratio, ◌≼◌, Above0, whole, ◌⊕◌, ◌⊗◌, ◌⊖◌, power, Frac, ◌⊑◌, zero_f, neg, ◌⊞◌, ◌⊠◌, of_ratio, magnitude}
-use Rattle.exact.specs.laws.Ratio.{≼_refl, ≼_trans, zero-≼, ⊗_mono}
+use Rattle.exact.proofs.laws.Ratio.{≼_refl, ≼_trans, zero-≼, ⊗_mono}
 use Rattle.exact.specs.Series.{one_over}
-use Rattle.exact.specs.laws.Width.{half}
+use Rattle.exact.proofs.laws.Width.{half}
 use Rattle.exact.specs.laws.Decide.{dec_f}
-use Rattle.exact.specs.laws.Frac.{⊑_refl, ⊑_trans, ⊠-mono}
+use Rattle.exact.proofs.laws.Frac.{⊑_refl, ⊑_trans, ⊠-mono}
 use Rattle.exact.specs.Bracket.{Bracket}
-use Rattle.exact.specs.laws.EndsMeet.{of_ratio_mono, Below, exp_below}
+use Rattle.exact.proofs.laws.EndsMeet.{of_ratio_mono, Below, exp_below}
 use Rattle.exact.specs.LnExp.{exp_lower_at, exp_upper_at}
 use Rattle.exact.specs.Formula.{lift, ◌>>◌, exp_b}
-use Rattle.exact.specs.laws.Meeting.{ends}
-use Rattle.exact.specs.laws.Containment.{Inside, exp_isotone}
-use Rattle.exact.specs.laws.Points.{point, pair, signed_above, signed_product, product_signed}
-use Rattle.exact.specs.laws.Reduction.{most_upper, least_one, room, LowerEnd, lower_from, lower_from_negative}
-use Rattle.exact.specs.laws.ExpSpread.{slack, exp_ends_near}
+use Rattle.exact.proofs.laws.Meeting.{ends}
+use Rattle.exact.proofs.laws.Containment.{Inside, exp_isotone}
+use Rattle.exact.proofs.laws.Points.{point, pair, signed_above, signed_product, product_signed}
+use Rattle.exact.proofs.laws.Reduction.{most_upper, least_one, room, LowerEnd, lower_from, lower_from_negative}
+use Rattle.exact.proofs.laws.ExpSpread.{slack, exp_ends_near}
 use Rattle.exact.specs.Holding.{◌∈◌}
 use Rattle.span.specs.declared.Span.{Span}
 use Rattle.span.specs.Spans.{unit, hull, units, Normal, Width}

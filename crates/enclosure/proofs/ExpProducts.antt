@@ -4,8 +4,8 @@ use Prim.Native.Nat.{ℕ, ◌+◌, ◌*◌, ◌^◌, ◌≤◌, ◌<◌}
 use native.Mathlib.Nat.{mul-pos}
 use native.Mathlib.Omega.{arith}
 use Rattle.exact.specs.Fraction.{Ratio, ◌≼◌, ◌≈◌, whole, ◌⊕◌, ◌⊗◌}
-use Rattle.exact.specs.laws.Ratio.{≼_refl, ≼_trans, to≼, from≼, ⊗_mono}
-use Rattle.exact.specs.laws.Reduction.{most_sum, most_mono, least_sum, least_mono}
+use Rattle.exact.proofs.laws.Ratio.{≼_refl, ≼_trans, to≼, from≼, ⊗_mono}
+use Rattle.exact.proofs.laws.Reduction.{most_sum, most_mono, least_sum, least_mono}
 use Rattle.span.specs.declared.Span.{Span}
 use Rattle.span.specs.Spans.{unit, unit_positive, Normal, Factors, Product}
 use Rattle.span.specs.Bounds.{lower_end, upper_end, product_at, held}

@@ -5,11 +5,11 @@ use native.Mathlib.Nat.{mul-pos}
 use native.Mathlib.Omega.{arith}
 use lib.Pow.{pow_pos}
 use Rattle.exact.specs.Fraction.{Ratio, ◌≼◌, whole, ◌⊕◌, ◌⊗◌, power, ◌⊑◌, zero_f, neg, magnitude, Above0, ◌⊖◌, recip, sum}
-use Rattle.exact.specs.laws.Ratio.{≼_refl, ≼_trans, to≼, ⊗_mono}
-use Rattle.exact.specs.laws.Frac.{⊑_trans}
-use Rattle.exact.specs.laws.EndsMeet.{of_ratio_mono}
-use Rattle.exact.specs.laws.LogAbove.{powers_of_two}
-use Rattle.exact.specs.laws.Reduction.{Most, most_mono, least_mono, UpperEnd, lower_from, upper_from, lower_from_negative, upper_from_negative, most_times, most_upper}
+use Rattle.exact.proofs.laws.Ratio.{≼_refl, ≼_trans, to≼, ⊗_mono}
+use Rattle.exact.proofs.laws.Frac.{⊑_trans}
+use Rattle.exact.proofs.laws.EndsMeet.{of_ratio_mono}
+use Rattle.exact.proofs.laws.LogAbove.{powers_of_two}
+use Rattle.exact.proofs.laws.Reduction.{Most, most_mono, least_mono, UpperEnd, lower_from, upper_from, lower_from_negative, upper_from_negative, most_times, most_upper}
 use Rattle.exact.specs.Series.{factorial, exp_term, exp_lower, exp_tail, exp_upper}
 use Rattle.exact.specs.Holding.{◌∈◌}
 use Rattle.span.specs.declared.Span.{Span}

@@ -9,17 +9,17 @@ use lib.IntN.{ℤ, pos, negsuc}
 use lib.Signed.{mag}
 use lib.Pow.{pow_pos, pow_mono}
 use Rattle.exact.specs.Fraction.{Ratio, Above0, whole, ◌⊗◌, recip, power, Frac, ◌⊑◌, Positive, ◌⊞◌, of_ratio, magnitude}
-use Rattle.exact.specs.laws.Ratio.{⊗_mono}
+use Rattle.exact.proofs.laws.Ratio.{⊗_mono}
 use Rattle.exact.specs.Series.{one_over}
-use Rattle.exact.specs.laws.Ln.{whole_mono}
-use Rattle.exact.specs.laws.Width.{ninth}
-use Rattle.exact.specs.laws.Fixed.{Upper, upper_sum}
-use Rattle.exact.specs.laws.Frac.{⊑_refl, ⊑_trans}
+use Rattle.exact.proofs.laws.Ln.{whole_mono}
+use Rattle.exact.proofs.laws.Width.{ninth}
+use Rattle.exact.proofs.laws.Fixed.{Upper, upper_sum}
+use Rattle.exact.proofs.laws.Frac.{⊑_refl, ⊑_trans}
 use Rattle.exact.specs.laws.Divisors.{magnitude_above}
 use Rattle.exact.specs.LnExp.{ln_lower_at}
-use Rattle.exact.specs.laws.EndsMeet.{ln_below}
-use Rattle.exact.specs.laws.Containment.{ln_lower_end, ln_upper_end}
-use Rattle.exact.specs.laws.Spread.{octaves, octaves_most, spread, ln_spread_signed}
+use Rattle.exact.proofs.laws.EndsMeet.{ln_below}
+use Rattle.exact.proofs.laws.Containment.{ln_lower_end, ln_upper_end}
+use Rattle.exact.proofs.laws.Spread.{octaves, octaves_most, spread, ln_spread_signed}
 use Rattle.exact.specs.Holding.{◌∈◌}
 use Rattle.span.specs.declared.Span.{Span}
 use Rattle.span.specs.Spans.{unit, unit_positive, units, hull, Rel}

@@ -5,17 +5,17 @@ use native.Mathlib.Nat.{add_comm, mul-le-mul, mul-le-mul_right, mul-le-mul_left,
 use native.Mathlib.Decide.{dec_le}
 use native.Mathlib.Omega.{arith}
 use Rattle.exact.specs.Fraction.{Ratio, ◌≼◌, ◌≈◌, Above0, whole, ◌⊕◌, ◌⊗◌, ◌⊖◌, recip, ◌⊑◌, Positive, of_ratio, neg, magnitude, one_f}
-use Rattle.exact.specs.laws.Ratio.{≼_refl, ≼_trans, to≼, from≼, ⊕-mono, above_mono}
+use Rattle.exact.proofs.laws.Ratio.{≼_refl, ≼_trans, to≼, from≼, ⊕-mono, above_mono}
 use Rattle.exact.specs.Series.{gap, argument}
 use Rattle.exact.specs.laws.Positive.{two_pow_pos}
-use Rattle.exact.specs.laws.Octaves.{suc_pow}
-use Rattle.exact.specs.laws.LnSeries.{gap_anti, series_lower_mono, series_upper_mono}
+use Rattle.exact.proofs.laws.Octaves.{suc_pow}
+use Rattle.exact.proofs.laws.LnSeries.{gap_anti, series_lower_mono, series_upper_mono}
 use Rattle.exact.specs.laws.Divisors.{gap_argument, magnitude_above, one_magnitude, one_recip}
 use Rattle.exact.specs.LnExp.{ln_lower, ln_upper}
 use Rattle.exact.specs.laws.Decide.{dec_f}
-use Rattle.exact.specs.laws.Fixed.{Lower, Upper, lower_sum, upper_sum}
-use Rattle.exact.specs.laws.Frac.{⊑_trans}
-use Rattle.exact.specs.laws.Points.{ln_low_above, ln_high_above, ln_low_below, ln_high_below}
+use Rattle.exact.proofs.laws.Fixed.{Lower, Upper, lower_sum, upper_sum}
+use Rattle.exact.proofs.laws.Frac.{⊑_trans}
+use Rattle.exact.proofs.laws.Points.{ln_low_above, ln_high_above, ln_low_below, ln_high_below}
 use Rattle.span.specs.Spans.{unit, unit_positive, units}
 use Rattle.span.specs.Unary.{LnWithin}
 use Rattle.span.specs.Powers.{powers}

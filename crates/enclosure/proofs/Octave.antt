@@ -6,16 +6,16 @@ use native.Mathlib.Nat.{mul-pos, mul-le-mul_right, mul-le-mul_left, le_of_mul-le
 use native.Mathlib.Decide.{dec_le}
 use native.Mathlib.Omega.{arith}
 use Rattle.exact.specs.Fraction.{Ratio, ◌≼◌, ◌≈◌, Above0, whole, ◌⊕◌, ◌⊗◌, ◌⊖◌, recip, power}
-use Rattle.exact.specs.laws.Ratio.{≼_refl, ≼_trans, ⊕-mono, ⊗_mono, above_whole, nothing_times}
+use Rattle.exact.proofs.laws.Ratio.{≼_refl, ≼_trans, ⊕-mono, ⊗_mono, above_whole, nothing_times}
 use Rattle.exact.specs.Series.{one_over, even, odd, ln_tail, gap, series_lower, series_upper, exponent, fraction, argument, third}
 use Rattle.exact.specs.laws.Positive.{odd_pos, two_pow_pos}
-use Rattle.exact.specs.laws.LnSeries.{series_lower_grows, series_lower_mono, series_upper_mono}
-use Rattle.exact.specs.laws.Ln.{exponent_low, exponent_high, argument_mono, argument_two, two_pow_times, whole_mono, ladder}
+use Rattle.exact.proofs.laws.LnSeries.{series_lower_grows, series_lower_mono, series_upper_mono}
+use Rattle.exact.proofs.laws.Ln.{exponent_low, exponent_high, argument_mono, argument_two, two_pow_times, whole_mono, ladder}
 use Rattle.exact.specs.laws.Divisors.{gap_third, gap_argument}
 use Rattle.exact.specs.LnExp.{ln2_lower, ln2_upper, ln_lower, ln_upper}
-use Rattle.exact.specs.laws.Octaves.{third_two, argument_one, zero_times, zero_terms, zero_zero, twice_zero}
-use Rattle.exact.specs.laws.Width.{ninth}
-use Rattle.exact.specs.laws.Fixed.{Lower, Upper}
+use Rattle.exact.proofs.laws.Octaves.{third_two, argument_one, zero_times, zero_terms, zero_zero, twice_zero}
+use Rattle.exact.proofs.laws.Width.{ninth}
+use Rattle.exact.proofs.laws.Fixed.{Lower, Upper}
 use Rattle.enclosure.proofs.OddSeries.{lower_to, upper_to, upper_near, ninth_from}
 
 gap_zero : Above0 (gap (whole 0))

@@ -6,14 +6,14 @@ use native.Mathlib.Nat.{le_trans, le_of_eq, mul-le-mul, mul-mul-mul_comm, mul_as
 use native.Mathlib.Omega.{arith}
 use lib.Dec.{lit≤}
 use Rattle.exact.specs.Fraction.{Ratio, ◌≼◌, ◌≈◌, Above0, whole, ◌⊕◌, ◌⊗◌, power, sum}
-use Rattle.exact.specs.laws.Ratio.{≼_refl, ≼_trans, ⊕-mono, ⊕-assoc, to≼, from≼}
-use Rattle.exact.specs.laws.Equal.{≈-refl, ≈-trans, ⊕-cong}
-use Rattle.exact.specs.laws.Sums.{after, after_is}
+use Rattle.exact.proofs.laws.Ratio.{≼_refl, ≼_trans, ⊕-mono, ⊕-assoc, to≼, from≼}
+use Rattle.exact.proofs.laws.Equal.{≈-refl, ≈-trans, ⊕-cong}
+use Rattle.exact.proofs.laws.Sums.{after, after_is}
 use Rattle.exact.specs.Series.{one_over, even, odd, ln_term, gap, series_lower, series_upper, third}
 use Rattle.exact.specs.laws.Positive.{odd_pos}
-use Rattle.exact.specs.laws.LnSeries.{even_is, series_lower_grows, series_lower_upper}
-use Rattle.exact.specs.laws.Width.{after_suc, ninth, series_width}
-use Rattle.exact.specs.laws.Fixed.{Lower, Upper, lower_sum, upper_sum, lower_product, upper_product}
+use Rattle.exact.proofs.laws.LnSeries.{even_is, series_lower_grows, series_lower_upper}
+use Rattle.exact.proofs.laws.Width.{after_suc, ninth, series_width}
+use Rattle.exact.proofs.laws.Fixed.{Lower, Upper, lower_sum, upper_sum, lower_product, upper_product}
 use Rattle.enclosure.specs.LogSteps.{ratio, Third, Series}
 
 -- Bounds in S-ths

@@ -6,13 +6,13 @@ use Rattle.exact.specs.Fraction.{Ratio, Frac, ◌⊑◌, zero_f, of_ratio, magni
 use Rattle.exact.specs.Series.{exp_lower}
 use Rattle.exact.specs.LnExp.{exp_lower_at, exp_upper_at}
 use Rattle.exact.specs.laws.Decide.{dec_f, decided}
-use Rattle.exact.specs.laws.Ratio.{≼_refl, ≼_trans}
-use Rattle.exact.specs.laws.Frac.{⊑_refl, ⊑_trans}
-use Rattle.exact.specs.laws.Exp.{exp_lower_mono}
-use Rattle.exact.specs.laws.EndsMeet.{signed, of_ratio_mono, Below, exp_below}
-use Rattle.exact.specs.laws.Containment.{AtMost, exp_lower_end}
-use Rattle.exact.specs.laws.Points.{signed_above, signed_most, signed_least}
-use Rattle.exact.specs.laws.Reduction.{Most, Least, LowerEnd, UpperEnd, least_mono, lower_from}
+use Rattle.exact.proofs.laws.Ratio.{≼_refl, ≼_trans}
+use Rattle.exact.proofs.laws.Frac.{⊑_refl, ⊑_trans}
+use Rattle.exact.proofs.laws.Exp.{exp_lower_mono}
+use Rattle.exact.proofs.laws.EndsMeet.{signed, of_ratio_mono, Below, exp_below}
+use Rattle.exact.proofs.laws.Containment.{AtMost, exp_lower_end}
+use Rattle.exact.proofs.laws.Points.{signed_above, signed_most, signed_least}
+use Rattle.exact.proofs.laws.Reduction.{Most, Least, LowerEnd, UpperEnd, least_mono, lower_from}
 use Rattle.exact.specs.Holding.{◌∈◌}
 use Rattle.span.specs.declared.Span.{Span}
 use Rattle.span.specs.Spans.{unit, units, hull, Width}

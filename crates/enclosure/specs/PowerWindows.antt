@@ -6,13 +6,13 @@ use Rattle.std.proofs.Math.Option.{some}
 use Rattle.exact.specs.Fraction.{Ratio, ◌≼◌, Above0, whole, ◌⊕◌, ◌⊗◌, ◌⊖◌, power, of_ratio}
 use Rattle.exact.specs.Series.{one_over}
 use Rattle.exact.specs.Formula.{const, power_of, bracket_at}
-use Rattle.exact.specs.laws.Ratio.{≼_refl, ≼_trans, ⊗_mono, power_mono}
-use Rattle.exact.specs.laws.Width.{half}
-use Rattle.exact.specs.laws.ExpSpread.{slack}
-use Rattle.exact.specs.laws.Containment.{Inside}
-use Rattle.exact.specs.laws.Points.{pair, signed_least, signed_most, positive_of}
-use Rattle.exact.specs.laws.PowerEnds.{power_ends, less_above, ends_between}
-use Rattle.exact.specs.laws.Quotient.{recip_below}
+use Rattle.exact.proofs.laws.Ratio.{≼_refl, ≼_trans, ⊗_mono, power_mono}
+use Rattle.exact.proofs.laws.Width.{half}
+use Rattle.exact.proofs.laws.ExpSpread.{slack}
+use Rattle.exact.proofs.laws.Containment.{Inside}
+use Rattle.exact.proofs.laws.Points.{pair, signed_least, signed_most, positive_of}
+use Rattle.exact.proofs.laws.PowerEnds.{power_ends, less_above, ends_between}
+use Rattle.exact.proofs.laws.Quotient.{recip_below}
 use Rattle.span.specs.declared.Span.{Span}
 use Rattle.span.specs.Spans.{unit, units, hull, Normal, Width}
 use Rattle.span.specs.Constants.{unit_by}

@@ -7,8 +7,8 @@ use lib.IntN.{ℤ, neg_ℤ, ◌*ℤ◌}
 use lib.Pow.{pow_pos}
 use Rattle.exact.specs.Fraction.{Frac, ◌⊑◌, ◌⊠◌}
 use Rattle.exact.specs.Bracket.{Bracket, over_pairs}
-use Rattle.exact.specs.laws.Frac.{⊑_trans, smaller_glb, larger_lub}
-use Rattle.exact.specs.laws.Pairs.{pairs_hold, ⊠-monotone}
+use Rattle.exact.proofs.laws.Frac.{⊑_trans, smaller_glb, larger_lub}
+use Rattle.exact.proofs.laws.Pairs.{pairs_hold, ⊠-monotone}
 use Rattle.exact.specs.Holding.{◌∈◌}
 use Rattle.fixed.specs.declared.Log.{Log}
 use Rattle.fixed.specs.FloorAndCeiling.{up, dn, min_z}

@@ -4,7 +4,7 @@ use Prim.Native.Nat.{ℕ, ◌+◌}
 use native.Mathlib.Omega.{arith}
 use lib.IntN.{ℤ, ◌+ℤ◌, ◌-ℤ◌}
 use Rattle.exact.specs.Fraction.{◌⊑◌, ◌⊞◌, ◌⊟◌, neg}
-use Rattle.exact.specs.laws.Frac.{⊑_trans, ⊞-mono, ⊟-mono}
+use Rattle.exact.proofs.laws.Frac.{⊑_trans, ⊞-mono, ⊟-mono}
 use Rattle.fixed.specs.declared.Log.{Log}
 use Rattle.fixed.specs.FloorAndCeiling.{up, dn}
 use Rattle.fixed.specs.Logs.{fixed, bracket}

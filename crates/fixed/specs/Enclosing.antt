@@ -3,11 +3,11 @@
 use Rattle.std.specs.Prelude.{◌≡◌, ℕ, suc, ◌+◌, ◌*◌, ◌^◌, ◌≤◌, pos, negsuc}
 use Rattle.std.proofs.Common.{ap, mul-le-mul_right, le_of_mul-le-mul_right, arith}
 use Rattle.exact.specs.Fraction.{neg, Ratio, Frac, ◌⊑◌, of_ratio, ◌⊠◌}
-use Rattle.exact.specs.laws.Frac.{⊑_trans, ⊠-comm}
+use Rattle.exact.proofs.laws.Frac.{⊑_trans, ⊠-comm}
 use Rattle.exact.specs.Formula.{Formula, const, add, sub, mul, bracket_at}
-use Rattle.exact.specs.laws.Containment.{contains_holds}
-use Rattle.exact.specs.laws.Inclusion.{binary_inside, const_inside}
-use Rattle.exact.specs.laws.Points.{point_inside}
+use Rattle.exact.proofs.laws.Containment.{contains_holds}
+use Rattle.exact.proofs.laws.Inclusion.{binary_inside, const_inside}
+use Rattle.exact.proofs.laws.Points.{point_inside}
 use Rattle.exact.specs.Holding.{Holds}
 use Rattle.fixed.specs.declared.Log.{Log}
 use Rattle.fixed.specs.FloorAndCeiling.{up, dn}

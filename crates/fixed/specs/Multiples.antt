@@ -2,7 +2,7 @@
 use Rattle.std.specs.Prelude.{◌≡◌, ℕ, ◌+◌, ◌*◌, ◌≤◌, ◌<◌, ℤ, pos, ◌*ℤ◌}
 use Rattle.std.proofs.Common.{mul-le-mul_right, le_of_mul-le-mul_right, lt_of_mul-lt-mul_right, arith}
 use Rattle.exact.specs.Fraction.{◌⊑◌}
-use Rattle.exact.specs.laws.Frac.{⊑_trans, scale_mono}
+use Rattle.exact.proofs.laws.Frac.{⊑_trans, scale_mono}
 use Rattle.fixed.specs.declared.Log.{Log}
 use Rattle.fixed.specs.FloorAndCeiling.{up, dn, floor_z, ceil_z}
 use Rattle.fixed.specs.Logs.{bracket, Ordered, Narrow, Small}

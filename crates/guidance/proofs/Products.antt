@@ -6,7 +6,7 @@ use native.Mathlib.Nat.{mul-le-mul, div-add-mod'}
 use native.Mathlib.Omega.{arith}
 use lib.Dec.{ltb}
 use borrow.Author.Tests.{lt-ltb, le-ltb}
-use Rattle.exact.specs.laws.Tests.{ltb_same}
+use Rattle.exact.proofs.laws.Tests.{ltb_same}
 
 abbrev pub half : ℕ
 half = 4294967296

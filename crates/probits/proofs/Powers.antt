@@ -4,7 +4,7 @@ use Prim.Native.Nat.{ℕ, ◌+◌, ◌*◌, ◌≤◌}
 use native.Mathlib.Omega.{arith}
 use Rattle.exact.specs.Fraction.{whole, of_ratio}
 use Rattle.exact.specs.Formula.{const}
-use Rattle.exact.specs.laws.Inclusion.{const_inside}
+use Rattle.exact.proofs.laws.Inclusion.{const_inside}
 use Rattle.span.specs.declared.Span.{Span}
 use Rattle.span.specs.Spans.{hull, whole_f, Width, Whole, Quotient}
 use Rattle.span.specs.Enclosing.{Encloses, quotient_encloses, divisor, wider}

@@ -1,5 +1,6 @@
 // The ring of a threshold: an inner and an outer distance, between which the overpressure of a case falls below it.
 #![tactic(auto)]
+
 ghost use Rattle.std.specs.Prelude.{◌≡◌, ◌^◌};
 ghost use Rattle.guidance.specs.Cases.{Air};
 ghost use Rattle.guidance.specs.CloudWords.{Heated};

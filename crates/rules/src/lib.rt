@@ -1,6 +1,7 @@
 // Why a figure is what it is: the rule that gave ΔP and the rule that gave I of an accepted case.
 // The near field and 0.34 are told by the exact tests of `guidance`, the smaller of two figures by intervals that lie apart.
 #![tactic(auto)]
+
 ghost use Rattle.std.specs.Prelude.{◌≡◌};
 ghost use Rattle.guidance.specs.AirPressure.{air_of};
 ghost use Rattle.guidance.specs.Cases.{Accepted};

@@ -7,7 +7,7 @@ use native.Mathlib.Omega.{arith}
 use lib.Dec.{ltb}
 use lib.Pow.{pow_pos, pow_mono}
 use borrow.Author.Tests.{le-ltb}
-use Rattle.exact.specs.laws.Tests.{ltb_same}
+use Rattle.exact.proofs.laws.Tests.{ltb_same}
 use Rattle.span.specs.declared.Span.{Span}
 use Rattle.span.specs.Spans.{Normal, below}
 use Rattle.span.specs.Rounding.{ShiftedDown}

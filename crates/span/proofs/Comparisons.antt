@@ -7,7 +7,7 @@ use native.Mathlib.Decide.{dec_le}
 use lib.Pow.{pow_pos}
 use Rattle.exact.specs.Fraction.{Frac, ◌⊑◌}
 use Rattle.exact.specs.Bracket.{smaller}
-use Rattle.exact.specs.laws.Frac.{smaller_left, smaller_right, smaller_glb, ⊑_trans}
+use Rattle.exact.proofs.laws.Frac.{smaller_left, smaller_right, smaller_glb, ⊑_trans}
 use Rattle.exact.specs.Holding.{◌∈◌}
 use Rattle.span.specs.declared.Span.{Span}
 use Rattle.span.specs.Spans.{unit, units, hull, Normal, Rel, Smaller, Floor, Ceiling}

@@ -6,7 +6,7 @@ use native.Mathlib.Nat.{le_trans, le_of_eq, mul-pos, mul-le-mul, mul-le-mul_righ
 use native.Mathlib.Omega.{arith}
 use lib.Pow.{pow_pos}
 use Rattle.exact.specs.Fraction.{Frac, ◌⊑◌, ◌⊞◌}
-use Rattle.exact.specs.laws.Frac.{⊑_trans}
+use Rattle.exact.proofs.laws.Frac.{⊑_trans}
 use Rattle.exact.specs.Holding.{◌∈◌}
 use Rattle.span.specs.declared.Span.{Span}
 use Rattle.span.specs.Spans.{unit, unit_positive, units, hull, whole_f, Whole, FractionOf, Factors, Product, Divisible, Quotient, Sum}

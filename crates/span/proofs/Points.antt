@@ -4,7 +4,7 @@ use Prim.Native.Nat.{ℕ, ◌+◌, ◌*◌, ◌-◌, ◌≤◌}
 use native.Mathlib.Nat.{mul-le-mul_right, le_of_mul-le-mul_right}
 use native.Mathlib.Omega.{arith}
 use Rattle.exact.specs.Fraction.{Frac, ◌⊑◌, Positive, zero_f, ◌⊞◌, neg, ◌⊟◌, ◌⊠◌, inverse}
-use Rattle.exact.specs.laws.Frac.{⊑_trans, ⊞-mono, ⊟-mono, ⊠-mono, ⊠-comm, smaller_left, smaller_right, smaller_glb}
+use Rattle.exact.proofs.laws.Frac.{⊑_trans, ⊞-mono, ⊟-mono, ⊠-mono, ⊠-comm, smaller_left, smaller_right, smaller_glb}
 use Rattle.exact.specs.Bracket.{smaller, Bracket}
 use Rattle.exact.specs.Holding.{◌∈◌}
 use Rattle.span.specs.Spans.{unit, unit_positive, units}

@@ -3,7 +3,7 @@
 use Rattle.std.specs.Prelude.{◌≡◌, ℕ, ◌*◌, ◌-◌, ◌^◌, ◌≤◌, ◌<◌}
 use Rattle.std.proofs.Common.{ap, mul-le-mul_right, arith}
 use Rattle.exact.specs.Fraction.{Frac, ◌⊑◌, Positive, ◌⊠◌, inverse}
-use Rattle.exact.specs.laws.Frac.{⊑_trans}
+use Rattle.exact.proofs.laws.Frac.{⊑_trans}
 use Rattle.exact.specs.Bracket.{Bracket}
 use Rattle.exact.specs.Holding.{◌∈◌}
 use Rattle.span.specs.declared.Span.{Span}

@@ -5,12 +5,12 @@ use Rattle.std.specs.Prelude.{ℕ, ◌*◌, ◌^◌, ◌≤◌, ◌<◌, ◌≡�
 use Rattle.std.proofs.Common.{mul-le-mul_right, mul-lt-mul_of_pos_right, arith, ltb-true}
 use Rattle.exact.specs.Fraction.{Frac}
 use Rattle.exact.specs.Formula.{Formula, const, add, sub, mul, div, least, bracket_at}
-use Rattle.exact.specs.laws.Meeting.{meeting}
-use Rattle.exact.specs.laws.Containment.{Inside, contains_holds}
-use Rattle.exact.specs.laws.Inclusion.{binary_inside, binary_quotient, const_inside}
+use Rattle.exact.proofs.laws.Meeting.{meeting}
+use Rattle.exact.proofs.laws.Containment.{Inside, contains_holds}
+use Rattle.exact.proofs.laws.Inclusion.{binary_inside, binary_quotient, const_inside}
 use Rattle.exact.specs.Holding.{Holds}
 use Rattle.exact.specs.Smaller.{IsSmaller}
-use Rattle.exact.specs.laws.Smaller.{smaller_inside}
+use Rattle.exact.proofs.laws.Smaller.{smaller_inside}
 use Rattle.span.specs.declared.Span.{Span}
 use Rattle.span.specs.Spans.{unit, unit_positive, units, hull, whole_f, fraction, Normal, Rel, Width, Whole, FractionOf, Constant, Product, Quotient, Sum, Difference, Smaller, below}
 

@@ -5,13 +5,13 @@ use Rattle.std.proofs.Common.{sym, subst₂}
 use Rattle.std.proofs.Math.Option.{Option, none, some}
 use Rattle.exact.specs.Fraction.{Frac, ◌⊑◌, Positive}
 use Rattle.exact.specs.laws.Decide.{dec_positives, decided}
-use Rattle.exact.specs.laws.Frac.{positive_mono}
+use Rattle.exact.proofs.laws.Frac.{positive_mono}
 use Rattle.exact.specs.Bracket.{Bracket}
-use Rattle.exact.specs.laws.Pairs.{lo_in, hi_in}
+use Rattle.exact.proofs.laws.Pairs.{lo_in, hi_in}
 use Rattle.exact.specs.LnExp.{ln_lower_at, ln_upper_at, exp_lower_at, exp_upper_at}
 use Rattle.exact.specs.Formula.{Formula, ln, exp, bracket_at, lift, ◌>>◌, ln_b, exp_b}
-use Rattle.exact.specs.laws.Meeting.{ends, Meets, meeting}
-use Rattle.exact.specs.laws.Containment.{Inside}
+use Rattle.exact.proofs.laws.Meeting.{ends, Meets, meeting}
+use Rattle.exact.proofs.laws.Containment.{Inside}
 use Rattle.exact.specs.Holding.{◌∈◌}
 
 -- the n-th ends of ln p lie in K

@@ -9,7 +9,7 @@ use lib.ListN.{length, get_or, take, set, length-set}
 use lib.Seq.{take-suc, take-suc-set, take_all, take-append-add, length-take-le}
 use lib.Dec.{leb}
 use borrow.Author.Tests.{leb-true, leb-false}
-use Rattle.exact.specs.laws.Tests.{settle}
+use Rattle.exact.proofs.laws.Tests.{settle}
 
 -- i of n characters are held behind the first `from`
 pub record Holding (start chars : List ℕ) (from n : ℕ) (line : List ℕ) (i : ℕ) : Type 0 where

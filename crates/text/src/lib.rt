@@ -1,5 +1,6 @@
 // The lines of an input that comes in parts, and the records of the output.
 #![tactic(auto)]
+
 ghost use Rattle.std.specs.Prelude.{[], length};
 ghost use Rattle.text.specs.Streams.{Stands};
 ghost use Rattle.text.specs.Promises.{Ready, Feeds, Finishes};

@@ -5,7 +5,7 @@ use native.Mathlib.Omega.{arith}
 use lib.IntN.{ℤ, pos, negsuc}
 use lib.Pow.{pow_pos}
 use Rattle.exact.specs.Fraction.{Frac, ◌⊑◌, of_ratio, neg, ◌⊞◌, ◌⊟◌, ◌⊠◌}
-use Rattle.exact.specs.laws.Frac.{⊑_refl, ⊑_trans}
+use Rattle.exact.proofs.laws.Frac.{⊑_refl, ⊑_trans}
 use Rattle.exact.specs.Holding.{◌∈◌}
 use Rattle.fixed.specs.declared.Log.{Log}
 use Rattle.fixed.specs.Logs.{up, dn, fixed, fixed_z, bracket, Ordered, Narrow, Small}

@@ -6,9 +6,9 @@ use Rattle.std.proofs.Common.{mul-pos, mul-le-mul, mul-le-mul_right, le_of_mul-l
 use Rattle.exact.specs.Fraction.{Ratio, of_ratio, ◌⊞◌, neg, ◌⊟◌, ◌⊑◌}
 use Rattle.exact.specs.Bracket.{Bracket}
 use Rattle.exact.specs.Formula.{Formula, bracket_at}
-use Rattle.exact.specs.laws.Frac.{⊑_trans, smaller_right}
-use Rattle.exact.specs.laws.Containment.{Inside}
-use Rattle.exact.specs.laws.Meeting.{Meets, meeting}
+use Rattle.exact.proofs.laws.Frac.{⊑_trans, smaller_right}
+use Rattle.exact.proofs.laws.Containment.{Inside}
+use Rattle.exact.proofs.laws.Meeting.{Meets, meeting}
 use Rattle.exact.specs.Holding.{◌∈◌}
 use Rattle.span.specs.declared.Span.{Span}
 use Rattle.span.specs.Spans.{unit, unit_positive, units, hull, fraction, Normal, Rel, Width, Constant, Product, Quotient, Sum, Difference, Smaller}

@@ -6,7 +6,7 @@ use Rattle.std.proofs.Math.Decide.{dec_le}
 use native.Mathlib.Omega.{arith}
 use Rattle.exact.specs.Fraction.{Ratio, whole, ◌⊗◌, power, ◌⊑◌, of_ratio, ◌⊠◌}
 use Rattle.exact.specs.Formula.{Formula}
-use Rattle.exact.specs.laws.Frac.{⊑_trans}
+use Rattle.exact.proofs.laws.Frac.{⊑_trans}
 use Rattle.guidance.specs.declared.Case.{Case}
 use Rattle.guidance.specs.AirPressure.{air_of}
 use Rattle.guidance.specs.Substances.{betas, beta_of, class_of, heat_of}
@@ -23,7 +23,7 @@ use Rattle.frame.specs.Tests.{frame_tests}
 use Rattle.frame.specs.Verdicts.{last_tests, frame_verdict}
 use Rattle.frame.specs.laws.Verdicts.{heat_given}
 use Rattle.exact.specs.Between.{whole_z, times, ExactBetween}
-use Rattle.exact.specs.laws.Between.{times_mono, between}
+use Rattle.exact.proofs.laws.Between.{times_mono, between}
 use Rattle.answer.specs.Answer.{Answer}
 use Rattle.answer.specs.KnownCases.{q, KnownCases}
 

@@ -6,7 +6,7 @@ use Rattle.std.proofs.Math.Decide.{dec_le}
 use Rattle.std.proofs.lemmas.Bool.{lt-leb}
 use Rattle.signed.specs.TwoParts.{up, dn}
 use Rattle.damage.specs.Damage.{table, not_above, tenths_of_percent, damage}
-use Rattle.exact.specs.laws.Tables.{both, both_left, both_right}
+use Rattle.exact.proofs.laws.Tables.{both, both_left, both_right}
 
 -- two readings that are equal or neighbours in the table, with 0 standing before 1 percent
 pub record Neighbours (lower upper : ℕ) : Type 0 where

@@ -1,5 +1,6 @@
 -- The orders and signs of fractions are decidable: what each decision answers is said whole by its type. Assumes nothing.
-use Rattle.std.specs.Prelude.{suc, ◌+◌, ◌*◌}
+use Rattle.std.specs.Prelude.{suc, ◌+◌, ◌*◌, ◌≤◌}
+use Rattle.std.proofs.Common.{arith}
 use Rattle.std.proofs.Math.Logic.Dec
 use Rattle.std.proofs.Math.Decide.{dec_le}
 use Rattle.exact.specs.Fraction.{Ratio, Above0, Frac, ◌⊑◌, Positive}
@@ -39,3 +40,13 @@ pub decided_both : {P C D : Type 0} {f : P → C} {g : ¬ P → C} {u : P → D}
     → ((h : P) → R (f h) (u h)) → ((h : ¬ P) → R (g h) (v h)) → R (elim d [ yes h ↦ f h | no h ↦ g h ]) (elim d [ yes h ↦ u h | no h ↦ v h ])
 decided_both R (yes h) a b = a h
 decided_both R (no h) a b = b h
+
+-- the order is total
+
+pub ⊑-total : (x y : Frac) → ¬ (x ⊑ y) → y ⊑ x
+⊑-total x y h = record { cross = go (dec_le (y.plus * x.den + x.minus * y.den) (x.plus * y.den + y.minus * x.den)) }
+  where
+    go : Dec (y.plus * x.den + x.minus * y.den ≤ x.plus * y.den + y.minus * x.den)
+        → y.plus * x.den + x.minus * y.den ≤ x.plus * y.den + y.minus * x.den
+    go (yes l) = l
+    go (no l) = absurd (h (record { cross = omega arith }))

@@ -3,7 +3,7 @@ use Rattle.std.specs.Prelude.{suc, ◌+◌, ◌*◌, ◌-◌, ◌≤◌, ◌<◌
 use Rattle.std.proofs.Common.{mul-le-mul, mul-le-mul_right, arith}
 use Rattle.exact.specs.Fraction.{Ratio, ◌≼◌, Above0, whole, ◌⊕◌, ◌⊗◌, ◌⊖◌, recip, Frac, ◌⊑◌, Positive, of_ratio, one_f, magnitude}
 use Rattle.exact.specs.Series.{one_over, gap, fraction, argument, third}
-use Rattle.exact.specs.laws.Frac.{⊑-total}
+use Rattle.exact.specs.laws.Decide.{⊑-total}
 
 -- 1 - u² is above 0
 gap_below : (u : Ratio) → u.num < u.den → Above0 (gap u)

@@ -4,8 +4,8 @@ use Rattle.std.proofs.Common.{◌∙◌}
 use Rattle.std.proofs.Math.Bool.{true, false}
 use native.Mathlib.Omega.{arith}
 use Rattle.exact.specs.Fraction.{Ratio, ◌≼◌, ◌≈◌, Above0, whole, ◌⊗◌, recip, power}
-use Rattle.exact.specs.laws.Equal.{≈-refl, ⊗_cong}
-use Rattle.exact.specs.laws.Quotient.{quotient_least, quotient_most}
+use Rattle.exact.proofs.laws.Equal.{≈-refl, ⊗_cong}
+use Rattle.exact.proofs.laws.Quotient.{quotient_least, quotient_most}
 use Rattle.guidance.specs.declared.Case.{Case}
 use Rattle.guidance.specs.declared.Cloud.{Cloud}
 use Rattle.guidance.specs.Clouds.{over, energy}

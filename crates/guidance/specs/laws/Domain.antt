@@ -4,7 +4,7 @@ use Rattle.std.proofs.Math.Nat.{mul-pos, mul-le-mul}
 use Rattle.std.proofs.Common.{mul-le-mul_right, arith, lt-ltb, le-ltb}
 use Rattle.std.proofs.Math.Decide.{dec_le}
 use Rattle.exact.specs.Fraction.{Ratio, ◌≼◌, ◌≈◌, Above0, whole, ◌⊗◌, recip, power}
-use Rattle.exact.specs.laws.Ratio.{≼_trans, to≼, from≼, above_mono}
+use Rattle.exact.proofs.laws.Ratio.{≼_trans, to≼, from≼, above_mono}
 use Rattle.guidance.specs.declared.Case.{Case}
 use Rattle.guidance.specs.Clouds.{over, heterogeneous, deflagrates, energy}
 use Rattle.guidance.specs.Distances.{metres, cubed, nearer, farther, cube02, cube025, cube034, cube24}

@@ -2,7 +2,7 @@
 use Rattle.std.specs.Prelude.{ℕ, ◌*◌, ◌<◌, ◌≡◌, refl, Bool, true, false, ◌&&◌, cond, eqb, ltb}
 use Rattle.std.proofs.Common.{arith, lt-ltb, le-ltb}
 use Rattle.exact.specs.Fraction.{Ratio, ◌≈◌, whole, ◌⊗◌}
-use Rattle.exact.specs.laws.Equal.{≈-refl, ≈-trans, ⊗_cong}
+use Rattle.exact.proofs.laws.Equal.{≈-refl, ≈-trans, ⊗_cong}
 use Rattle.guidance.specs.declared.Case.{Case}
 use Rattle.guidance.specs.declared.Cloud.{Cloud}
 use Rattle.guidance.specs.Substances.{heat_of}

@@ -7,7 +7,7 @@ use Rattle.std.proofs.Common.{le-ltb}
 use Rattle.exact.specs.Fraction.{whole, of_ratio, ◌⊑◌}
 use Rattle.exact.specs.Bracket.{Bracket}
 use Rattle.exact.specs.Formula.{Formula, bracket_at}
-use Rattle.exact.specs.laws.Least.{least_up_to, const_up_to}
+use Rattle.exact.proofs.laws.Least.{least_up_to, const_up_to}
 use Rattle.guidance.specs.declared.Case.{Case}
 use Rattle.guidance.specs.Clouds.{range_of}
 use Rattle.guidance.specs.Waves.{range_end, slow_front, front_speed_of, front_speed}

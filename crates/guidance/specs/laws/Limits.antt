@@ -13,7 +13,7 @@ use Rattle.guidance.specs.Clouds.{range_of, deflagrates}
 use Rattle.guidance.specs.Cases.{Fields}
 use Rattle.guidance.specs.CloudWords.{joules_of, parts_of, CloudOf}
 use Rattle.guidance.specs.laws.Ranges.{at_least1, sixteen_places}
-use Rattle.exact.specs.laws.Tables.{both, at_entry}
+use Rattle.exact.proofs.laws.Tables.{both, at_entry}
 
 -- Choices
 

@@ -3,9 +3,9 @@ use Rattle.std.specs.Prelude.{ℕ, suc, ◌≡◌}
 use Rattle.std.proofs.Common.{◌∙◌, arith}
 use Rattle.exact.specs.Fraction.{Ratio, ◌≈◌, Above0, whole, ◌⊗◌, recip, power, of_ratio}
 use Rattle.exact.specs.Formula.{Formula, const, div}
-use Rattle.exact.specs.laws.Ratio.{≼_refl, ⊗_mono}
-use Rattle.exact.specs.laws.Equal.{≈-refl, ⊗_cong, ⊗_cancel_right}
-use Rattle.exact.specs.laws.Replacing.{Within, within_refl, within_trans, add_within, mul_within, div_within, ln_within, exp_within, value_within, ratio_within}
+use Rattle.exact.proofs.laws.Ratio.{≼_refl, ⊗_mono}
+use Rattle.exact.proofs.laws.Equal.{≈-refl, ⊗_cong, ⊗_cancel_right}
+use Rattle.exact.proofs.laws.Replacing.{Within, within_refl, within_trans, add_within, mul_within, div_within, ln_within, exp_within, value_within, ratio_within}
 use Rattle.guidance.specs.declared.Case.{Case}
 use Rattle.guidance.specs.Clouds.{energy}
 use Rattle.guidance.specs.Distances.{less, metres, cubed, nearer, farther}

@@ -2,8 +2,8 @@
 use Rattle.std.specs.Prelude.{ℕ, ◌*◌, ◌≤◌, ◌≡◌, true, false, ltb}
 use Rattle.std.proofs.Common.{arith, le-ltb, ltb-true, ltb-false}
 use Rattle.exact.specs.Fraction.{Ratio, ◌≼◌, ◌≈◌}
-use Rattle.exact.specs.laws.Tests.{ltb_same}
-use Rattle.exact.specs.laws.Ratio.{≼_trans, to≼, from≼}
+use Rattle.exact.proofs.laws.Tests.{ltb_same}
+use Rattle.exact.proofs.laws.Ratio.{≼_trans, to≼, from≼}
 use Rattle.guidance.specs.Distances.{less}
 
 -- not x < y: y ≤ x

@@ -3,7 +3,7 @@ use Rattle.std.specs.Prelude.{ℕ}
 use Rattle.exact.specs.Fraction.{whole}
 use Rattle.exact.specs.Formula.{Formula}
 use Rattle.exact.specs.Smaller.{IsSmaller}
-use Rattle.exact.specs.laws.Scaling.{fraction_from_0, exp_from_0, without_factor, without_divisor}
+use Rattle.exact.proofs.laws.Scaling.{fraction_from_0, exp_from_0, without_factor, without_divisor}
 use Rattle.guidance.specs.declared.Case.{Case}
 use Rattle.guidance.specs.Waves.{number, in_pascals, in_pascal_seconds}
 

@@ -10,7 +10,7 @@ use Rattle.std.proofs.Math.Seq.{take_all}
 use borrow.Author.Tests.{lt-ltb, eq-eqb, ne_eqb, eqb-true}
 use Rattle.hexadecimals.specs.Digits.{digit_of, all_digits, bytes_of}
 use Rattle.hexadecimals.specs.Spelling.{spells, Spelled}
-use Rattle.exact.specs.laws.Tests.{both_true}
+use Rattle.exact.proofs.laws.Tests.{both_true}
 
 -- n bytes, of which i are made: what is left of the line decides, and gives the bytes that are left
 pub record Begun (n : ℕ) (line bytes : List ℕ) (i : ℕ) : Type 0 where

@@ -5,7 +5,7 @@ use Rattle.std.proofs.Math.Path.{ap}
 use Rattle.std.proofs.Math.Bool.{and_assoc, and_comm}
 use Rattle.std.proofs.Math.Decide.{dec_le}
 use Rattle.std.proofs.Math.ListN.{length}
-use Rattle.exact.specs.laws.Tests.{both_true}
+use Rattle.exact.proofs.laws.Tests.{both_true}
 use Rattle.hexadecimals.specs.Digits.{digit_of, all_digits}
 
 -- the first i characters are worked: each is worth its digit, and all are digits if `most` is below 16 and those that are left are digits

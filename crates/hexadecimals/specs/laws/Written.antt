@@ -6,7 +6,7 @@ use Rattle.std.proofs.Math.Pow.{are_bytes}
 use Rattle.std.specs.Float.Ieee.Fits.{and_i, and_l, and_r}
 use Rattle.std.proofs.lemmas.Bool.{lt-leb, not-true}
 use Rattle.hexadecimals.specs.Digits.{within, digit_of, all_digits, bytes_of}
-use Rattle.exact.specs.laws.Tests.{both_true}
+use Rattle.exact.proofs.laws.Tests.{both_true}
 use Rattle.hexadecimals.specs.laws.Within.{within_true}
 use Rattle.hexadecimals.specs.Written.{upper, digits_of, upper_case}
 

@@ -2,7 +2,7 @@
 use Rattle.std.specs.Prelude.{ℕ, ◌*◌, ◌≤◌, ◌≡◌, refl, Bool, true, false}
 use Rattle.std.proofs.Common.{sym, ◌∙◌, subst, mul-le-mul, mul-le-mul_right, arith}
 use Rattle.exact.specs.Fraction.{Ratio, ◌≼◌, whole, ◌⊗◌, power}
-use Rattle.exact.specs.laws.Ratio.{≼_trans}
+use Rattle.exact.proofs.laws.Ratio.{≼_trans}
 use Rattle.guidance.specs.declared.Case.{Case}
 use Rattle.guidance.specs.declared.Cloud.{Cloud}
 use Rattle.guidance.specs.Clouds.{range_of, ground_factor, lean_factor, aerosol_factor, energy}

@@ -3,7 +3,7 @@ use Rattle.std.specs.Prelude.{ℕ, ◌^◌, ◌≤◌, ◌<◌, ◌≡◌}
 use Rattle.std.proofs.Math.Decide.{dec_le}
 use Rattle.std.proofs.Common.{arith}
 use Rattle.exact.specs.Fraction.{◌⊑◌}
-use Rattle.exact.specs.laws.OneValue.{one_value}
+use Rattle.exact.proofs.laws.OneValue.{one_value}
 use Rattle.span.specs.Spans.{whole_f}
 use Rattle.guidance.specs.declared.Case.{Case}
 use Rattle.guidance.specs.Waves.{overpressure}

@@ -4,7 +4,7 @@ use Rattle.std.proofs.Common.{sym, ◌∙◌, arith, take_all, length-take-le, l
 use Rattle.frame.specs.Verdicts.{line_verdict}
 use Rattle.frame.specs.laws.Lengths.{is_neither}
 use Rattle.frame.specs.laws.Verdicts.{line_length}
-use Rattle.exact.specs.laws.Tests.{settle}
+use Rattle.exact.proofs.laws.Tests.{settle}
 use Rattle.text.specs.Records.{Record}
 
 pub verdict_capped : (line : List ℕ) (room : ℕ) → line_verdict (take 49 line) room ≡ line_verdict line room

@@ -1,7 +1,7 @@
 -- Laws of decimal digits. Assumes nothing.
 use Rattle.std.specs.Prelude.{ℕ, zero, suc, ◌+◌, ◌/◌, ◌%◌, ◌^◌, ◌≤◌, ◌<◌, ◌≡◌, refl, List, [], ◌∷◌, ◌++◌, length, ltb}
 use Rattle.std.proofs.Common.{sym, ap, ◌∙◌, not-suc-le-zero, pow-suc, arith, length-append, ltb-true, ltb-false}
-use Rattle.exact.specs.laws.Tests.{settle}
+use Rattle.exact.proofs.laws.Tests.{settle}
 use Rattle.text.specs.Digits.{places, decimal}
 
 places_none : (k : ℕ) → places k 0 ≡ []

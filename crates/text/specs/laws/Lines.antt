@@ -1,7 +1,7 @@
 -- Laws of the lines of an input: an input in two parts, and where the first line ends. Assumes nothing.
 use Rattle.std.specs.Prelude.{ℕ, suc, ◌≤◌, ◌<◌, ◌≡◌, refl, true, false, cond, List, [], ◌∷◌, ◌++◌, length, take, eqb}
 use Rattle.std.proofs.Common.{zero-le, suc-le-suc, sym, ap, ◌∙◌, append_assoc, append-nil, not-suc-le-zero, le_of_suc-le-suc, eqb-true, eq-eqb, ne_eqb}
-use Rattle.exact.specs.laws.Tests.{settle}
+use Rattle.exact.proofs.laws.Tests.{settle}
 use Rattle.text.specs.Lines.{lf, ended, left}
 use Rattle.text.specs.Feeding.{end_of}
 

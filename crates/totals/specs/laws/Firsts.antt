@@ -3,7 +3,7 @@ use Rattle.std.specs.Prelude.{ℕ, zero, suc, ◌+◌, ◌≤◌, ◌<◌, ◌�
 use Rattle.std.proofs.Common.{ap, ◌∙◌, arith, eqb-true, eq-eqb}
 use Rattle.std.proofs.Math.Option.{Option, none, some}
 use Rattle.std.proofs.lemmas.Bool.{eqb-false}
-use Rattle.exact.specs.laws.Tests.{settle}
+use Rattle.exact.proofs.laws.Tests.{settle}
 use Rattle.places.specs.declared.Held.{Held}
 use Rattle.totals.specs.Totals.{count, greatest, first_with}
 use Rattle.totals.specs.laws.Counts.{greatest_none}

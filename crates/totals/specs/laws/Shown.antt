@@ -4,7 +4,7 @@ use Rattle.std.specs.Prelude.{ℕ, zero, suc, ◌+◌, ◌≤◌, ◌<◌, ◌�
 use Rattle.std.proofs.Common.{ap, ◌∙◌, arith, eqb-true}
 use Rattle.std.proofs.Math.Option.{Option, none, some, none-ne-some, some-injective}
 use Rattle.std.proofs.lemmas.Bool.{eqb-false}
-use Rattle.exact.specs.laws.Tests.{settle}
+use Rattle.exact.proofs.laws.Tests.{settle}
 use Rattle.places.specs.declared.Held.{Held}
 use Rattle.places.specs.Holes.{at, Each}
 use Rattle.places.specs.laws.Kept.{each_weaker}

@@ -11,10 +11,10 @@ use lib.Pow.{pow_pos}
 use Rattle.exact.specs.Fraction.{◌≼◌, Above0, whole, ◌⊕◌, ◌⊗◌, ◌⊖◌, recip, power, sum, Frac, ◌⊑◌, Positive, of_ratio, one_f, magnitude, neg}
 use Rattle.exact.specs.Series.{one_over, even, ln_term, gap, ln_tail, series_upper, climb, exponent, argument, third}
 use Rattle.exact.specs.LnExp.{ln2_upper, ln_upper}
-use Rattle.exact.specs.laws.Frac.{⊑_trans, neg_anti}
-use Rattle.exact.specs.laws.EndsMeet.{of_ratio_mono, ln_below}
+use Rattle.exact.proofs.laws.Frac.{⊑_trans, neg_anti}
+use Rattle.exact.proofs.laws.EndsMeet.{of_ratio_mono, ln_below}
 use Rattle.exact.specs.laws.Divisors.{magnitude_above, one_recip}
-use Rattle.exact.specs.laws.Points.{ln_low_below}
+use Rattle.exact.proofs.laws.Points.{ln_low_below}
 use Rattle.exact.specs.Series as series
 use Rattle.span.specs.declared.Span.{Span}
 use Rattle.span.specs.Spans.{unit, unit_positive, fraction, Normal}

@@ -3,7 +3,7 @@ use native.Mathlib.Omega.{arith}
 use lib.Dec.{lit≤}
 use Rattle.exact.specs.Fraction.{whole, ◌⊕◌, ◌⊗◌, power, sum}
 use Rattle.exact.specs.Series.{series_lower, ln_term, even, third, one_over}
-use Rattle.exact.specs.laws.Width.{ninth}
+use Rattle.exact.proofs.laws.Width.{ninth}
 use borrow.Author.Rules.{rules}
 use Rattle.enclosure.proofs.LnPoint.{octaves_of}
 use Rattle.enclosure.proofs.logarithm.octaves.Goals as goal

@@ -1,0 +1,64 @@
+-- `ring::search` meets its contract: 10, 11, or the ring. Assumes nothing.
+-- what is known where the threshold is reached at 1 cm, and that is not the farthest distance
+use Prim.Native.Nat.{ℕ}
+use mathlib.Core.Path.{◌≡◌, refl, sym, ◌∙◌, subst}
+use native.Mathlib.Omega.{arith}
+use Rattle.receptor.specs.Receptor.{farthest}
+use Rattle.ring.specs.declared.Side.TheVariants.{Lower}
+use Rattle.ring.specs.Searching.{Reaches, Standing}
+use Rattle.ring.specs.laws.Standing.{standing_first, standing_last}
+use Rattle.ring.specs.laws.Sides.{reached_at, below_at, upper_reaches}
+use Rattle.ring.specs.laws.Choice.{weak, strong}
+use Rattle.ring.proofs.search.Goals as goal
+
+abbrev start : goal.Else-far-eq1 → goal.Start
+start c = c
+
+abbrev far : goal.Else-far-eq1 → ℕ
+far c = c.farthest-far.result
+
+pub pressure_at-first-requires : goal.pressure_at-first-requires
+pressure_at-first-requires c =
+    standing_first c.requires.0 c.requires.1
+
+pub returns-then-first-threshold : goal.returns-then-first-threshold
+returns-then-first-threshold c =
+    weak (below_at c.pressure_at-first.ensures refl c.if-first-threshold.true)
+
+-- where the farthest distance is 1 cm
+pub returns-then-far-eq1 : goal.returns-then-far-eq1
+returns-then-far-eq1 c =
+    let r = reached_at c.pressure_at-first.ensures refl c.if-first-threshold.false in
+    let e : farthest _ _ ≡ 1 = sym c.farthest-far.ensures ∙ c.if-far-eq1.true in
+    strong r (rw e (upper_reaches r))
+
+pub pressure_at-last-requires : goal.pressure_at-last-requires
+pressure_at-last-requires c =
+    let is-far : far c ≡ farthest (start c).args.air (start c).args.c = c.farthest-far.ensures in
+    let stands : Standing (start c).args.air (start c).args.c (far c) = let s = start c in subst (Standing s.args.air s.args.c) (sym is-far) (standing_last s.pre.0 s.pre.1) in
+    stands
+
+pub ring_within-requires : goal.ring_within-requires
+ring_within-requires c =
+    let is-far : far c ≡ farthest (start c).args.air (start c).args.c = c.farthest-far.ensures in
+    let not-one : far c ≡ 1 → ⊥ = c.if-far-eq1.false in
+    let first : Reaches Lower (start c).args.air (start c).args.c (start c).args.threshold 1 = reached_at c.pressure_at-first.ensures refl c.if-first-threshold.false in
+    let stands : Standing (start c).args.air (start c).args.c (far c) = let s = start c in subst (Standing s.args.air s.args.c) (sym is-far) (standing_last s.pre.0 s.pre.1) in
+    record {
+      standing = stands;
+      is-farthest = is-far;
+      more = omega (arith, stands.permitted.least, not-one);
+      first = first;
+      last = below_at c.pressure_at-last.ensures refl c.if-last-threshold.true;
+    }
+
+pub returns-then-last-threshold : goal.returns-then-last-threshold
+returns-then-last-threshold c =
+    c.ring_within.ensures
+
+-- at a farther one
+pub returns-else-last-threshold : goal.returns-else-last-threshold
+returns-else-last-threshold c =
+    let is-far : far c ≡ farthest (start c).args.air (start c).args.c = c.farthest-far.ensures in
+    let first : Reaches Lower (start c).args.air (start c).args.c (start c).args.threshold 1 = reached_at c.pressure_at-first.ensures refl c.if-first-threshold.false in
+    strong first (rw (sym is-far) (reached_at c.pressure_at-last.ensures refl c.if-last-threshold.false))
