@@ -1,5 +1,6 @@
 // A study sheet stored by column: the frames of its cases in order, without the gaps, each in 24 bytes.
 #![tactic(auto)]
+
 ghost use Rattle.std.specs.Prelude.{◌+◌, ◌*◌, ◌≤◌, ◌≡◌, length};
 ghost use Rattle.places.specs.Places.{holds, stands_for};
 ghost use Rattle.columns.specs.Stored.{Stores};

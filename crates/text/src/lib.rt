@@ -15,7 +15,7 @@ use records::put_record;
 
 // An input so far: how many lines have ended, and of the characters since then the first 49 and their number up to 49. A line of
 // more than 48 characters is refused for its length, whatever they are.
-#[derive(Drop)]
+#[derive(Clone, Copy)]
 pub struct Stream {
     pub lines: u64,
     pub held: usize,

@@ -15,7 +15,7 @@ pub shape_of-area : goal.shape_of-area
 shape_of-area c =
     let area = c.args.area.now in
     let n = c.args.n in
-    same_len_mid 1 (1 + 24 * n - 1) (set area 0 n) c.transpose.new.1.1.1.0 c.transpose.auto.1.1.1.0 ∙ length-set area 0 n
+    same_len_mid 1 (1 + 24 * n - 1) (set area 0 n) c.transpose.new.to c.transpose.auto.to ∙ length-set area 0 n
 
 pub returns : goal.returns
 returns c =

@@ -21,8 +21,8 @@ put_column-requires c =
     let turn = c.loop-j.invariant in
     (c.loop-j-test.true, rw (columns_part turn c.loop-j-test.true) turn.whole)
 
-pub overflow_add-at : goal.overflow_add-at
-overflow_add-at c =
+pub overflow_add-at-in-loop-j : goal.overflow_add-at-in-loop-j
+overflow_add-at-in-loop-j c =
     omega (arith, columns_room c.loop-j.invariant c.loop-j-test.true)
 
 pub loop-j-preserved : goal.loop-j-preserved

@@ -11,12 +11,6 @@ use Rattle.ring.specs.laws.Sides.{reached_at, below_at, upper_reaches}
 use Rattle.ring.specs.laws.Choice.{weak, strong}
 use Rattle.ring.proofs.search.Goals as goal
 
-abbrev start : goal.Else-far-eq1 → goal.Start
-start c = c
-
-abbrev far : goal.Else-far-eq1 → ℕ
-far c = c.farthest-far.result
-
 pub pressure_at-first-requires : goal.pressure_at-first-requires
 pressure_at-first-requires c =
     standing_first c.requires.0 c.requires.1
@@ -34,20 +28,20 @@ returns-then-far-eq1 c =
 
 pub pressure_at-last-requires : goal.pressure_at-last-requires
 pressure_at-last-requires c =
-    let is-far : far c ≡ farthest (start c).args.air (start c).args.c = c.farthest-far.ensures in
-    let stands : Standing (start c).args.air (start c).args.c (far c) = let s = start c in subst (Standing s.args.air s.args.c) (sym is-far) (standing_last s.pre.0 s.pre.1) in
+    let is_far : c.farthest-far.result ≡ farthest c.args.air c.args.c = c.farthest-far.ensures in
+    let stands : Standing c.args.air c.args.c c.farthest-far.result = subst (Standing c.args.air c.args.c) (sym is_far) (standing_last c.requires.0 c.requires.1) in
     stands
 
 pub ring_within-requires : goal.ring_within-requires
 ring_within-requires c =
-    let is-far : far c ≡ farthest (start c).args.air (start c).args.c = c.farthest-far.ensures in
-    let not-one : far c ≡ 1 → ⊥ = c.if-far-eq1.false in
-    let first : Reaches Lower (start c).args.air (start c).args.c (start c).args.threshold 1 = reached_at c.pressure_at-first.ensures refl c.if-first-threshold.false in
-    let stands : Standing (start c).args.air (start c).args.c (far c) = let s = start c in subst (Standing s.args.air s.args.c) (sym is-far) (standing_last s.pre.0 s.pre.1) in
+    let is_far : c.farthest-far.result ≡ farthest c.args.air c.args.c = c.farthest-far.ensures in
+    let not_one : c.farthest-far.result ≡ 1 → ⊥ = c.if-far-eq1.false in
+    let first : Reaches Lower c.args.air c.args.c c.args.threshold 1 = reached_at c.pressure_at-first.ensures refl c.if-first-threshold.false in
+    let stands : Standing c.args.air c.args.c c.farthest-far.result = subst (Standing c.args.air c.args.c) (sym is_far) (standing_last c.requires.0 c.requires.1) in
     record {
       standing = stands;
-      is-farthest = is-far;
-      more = omega (arith, stands.permitted.least, not-one);
+      is_farthest = is_far;
+      more = omega (arith, stands.permitted.least, not_one);
       first = first;
       last = below_at c.pressure_at-last.ensures refl c.if-last-threshold.true;
     }
@@ -59,6 +53,6 @@ returns-then-last-threshold c =
 -- at a farther one
 pub returns-else-last-threshold : goal.returns-else-last-threshold
 returns-else-last-threshold c =
-    let is-far : far c ≡ farthest (start c).args.air (start c).args.c = c.farthest-far.ensures in
-    let first : Reaches Lower (start c).args.air (start c).args.c (start c).args.threshold 1 = reached_at c.pressure_at-first.ensures refl c.if-first-threshold.false in
-    strong first (rw (sym is-far) (reached_at c.pressure_at-last.ensures refl c.if-last-threshold.false))
+    let is_far : c.farthest-far.result ≡ farthest c.args.air c.args.c = c.farthest-far.ensures in
+    let first : Reaches Lower c.args.air c.args.c c.args.threshold 1 = reached_at c.pressure_at-first.ensures refl c.if-first-threshold.false in
+    strong first (rw (sym is_far) (reached_at c.pressure_at-last.ensures refl c.if-last-threshold.false))
