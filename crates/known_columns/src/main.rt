@@ -4,18 +4,21 @@
 ghost use Rattle.std.specs.Prelude.{◌≡◌, ◌≤◌, length};
 
 use areas::MARK;
-use libc::{STDIN_FILENO, STDOUT_FILENO};
 use places::{Content, Held, Places};
+
+// The standard streams.
+const STDIN: i32 = 0;
+const STDOUT: i32 = 1;
 
 // The area that parts are lent of, and the most bytes that are turned back.
 const AREA: usize = 1600;
 
 fn print(text: &[u8]) {
-    io::write_all(STDOUT_FILENO, text);
+    io::write_all(STDOUT, text);
 }
 
 fn print_number(n: u64) {
-    io::print_decimal(STDOUT_FILENO, n);
+    io::print_decimal(STDOUT, n);
 }
 
 fn print_part(text: &[u8], n: usize)
@@ -186,6 +189,6 @@ fn show_all(text: &[u8]) {
 
 fn main() {
     let mut space = io::large_buffer();
-    let n = io::read_full(STDIN_FILENO, &mut space);
+    let n = io::read_full(STDIN, &mut space);
     show_all(&space[..n]);
 }

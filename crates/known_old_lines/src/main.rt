@@ -1,20 +1,25 @@
 // The test program of the old form: each request of its input, a way, an area's length and a text, taken in or given back.
 // Its stored output is that of a separate calculation.
 #![tactic(auto)]
+
 ghost use Rattle.std.specs.Prelude.{◌≤◌, length};
 
 use areas::MARK;
-use libc::{STDIN_FILENO, STDOUT_FILENO};
+
+// The standard streams.
+const STDIN: i32 = 0;
+
+const STDOUT: i32 = 1;
 
 // The area that parts are lent of.
 const AREA: usize = 120;
 
 fn print(text: &[u8]) {
-    io::write_all(STDOUT_FILENO, text);
+    io::write_all(STDOUT, text);
 }
 
 fn print_number(n: u64) {
-    io::print_decimal(STDOUT_FILENO, n);
+    io::print_decimal(STDOUT, n);
 }
 
 // A space and the first n bytes of the text, if any.
@@ -98,6 +103,6 @@ fn show_all(text: &[u8]) {
 
 fn main() {
     let mut space = io::large_buffer();
-    let n = io::read_full(STDIN_FILENO, &mut space);
+    let n = io::read_full(STDIN, &mut space);
     show_all(&space[..n]);
 }

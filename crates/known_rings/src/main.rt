@@ -1,17 +1,22 @@
 // The test program of rings: each request of its input, a threshold and a line, answered from the line and from the frame that it spells.
 // Its stored output is that of a separate calculation.
 #![tactic(auto)]
+
 ghost use Rattle.std.specs.Prelude.{◌≤◌, length};
 
-use libc::{STDIN_FILENO, STDOUT_FILENO};
 use ring::Answer;
 
+// The standard streams.
+const STDIN: i32 = 0;
+
+const STDOUT: i32 = 1;
+
 fn print(text: &[u8]) {
-    io::write_all(STDOUT_FILENO, text);
+    io::write_all(STDOUT, text);
 }
 
 fn print_number(n: u64) {
-    io::print_decimal(STDOUT_FILENO, n);
+    io::print_decimal(STDOUT, n);
 }
 
 // A ring's distances, or R and the refusal's number.
@@ -74,6 +79,6 @@ fn show_all(text: &[u8]) {
 
 fn main() {
     let mut space = io::large_buffer();
-    let n = io::read_full(STDIN_FILENO, &mut space);
+    let n = io::read_full(STDIN, &mut space);
     show_all(&space[..n]);
 }

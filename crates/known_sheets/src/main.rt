@@ -4,15 +4,18 @@
 ghost use Rattle.std.specs.Prelude.{◌≤◌, length};
 
 use guidance::Case;
-use libc::{STDIN_FILENO, STDOUT_FILENO};
 use sheet::{Found, Placing, Sheet};
 
+// The standard streams.
+const STDIN: i32 = 0;
+const STDOUT: i32 = 1;
+
 fn print(text: &[u8]) {
-    io::write_all(STDOUT_FILENO, text);
+    io::write_all(STDOUT, text);
 }
 
 fn print_number(n: u64) {
-    io::print_decimal(STDOUT_FILENO, n);
+    io::print_decimal(STDOUT, n);
 }
 
 fn print_marked(mark: &[u8], n: u64) {
@@ -247,7 +250,7 @@ fn act_all(text: &[u8], lent: &mut [u8]) {
 
 fn main() {
     let mut space = io::large_buffer();
-    let n = io::read_full(STDIN_FILENO, &mut space);
+    let n = io::read_full(STDIN, &mut space);
     let mut lent = [0u8; 2048];
     act_all(&space[..n], &mut lent);
 }

@@ -1,6 +1,7 @@
 // A study sheet that a caller lends as bytes, all zero when empty.
 // Each call unpacks the sheet, acts on it and packs it again; a refusal changes nothing that is lent.
 #![tactic(auto)]
+
 ghost use Rattle.std.specs.Prelude.{◌≡◌, ◌≤◌, length};
 ghost use Rattle.sheet_bytes.specs.Packing.{size, lent};
 ghost use Rattle.sheet.specs.Operations.{list_of};

@@ -1,5 +1,6 @@
 // The entries for C and other languages: answers into a lent area, single figures, rings, rules, the old form's lines, frames and spellings that are written, a study sheet, and its cases stored by column.
 #![tactic(auto)]
+
 ghost use Rattle.std.specs.Prelude.{length};
 ghost use Rattle.frame.specs.Verdicts.{frame_verdict, line_verdict};
 ghost use Rattle.linked.specs.Codes.{Entered, FigureAnswered};
