@@ -10,8 +10,8 @@ use Rattle.writing.proofs.spelling_size.Goals as goal
 
 pub overflow_mul-result : goal.overflow_mul-result
 overflow_mul-result c =
-    omega (arith, c.size_of.ensures, frame_most c.s-1.given.0.0)
+    omega (arith, c.size_of.ensures, frame_most c.in-Sound.c)
 
 pub returns-in-Sound : goal.returns-in-Sound
 returns-in-Sound c =
-    ap (λ (n : ℕ). 2 * n) c.size_of.ensures ∙ sym (spelling_length c.s-1.given.0.0) ∙ sym (ap (needed_for spelling) c.in-Sound.is)
+    ap (λ (n : ℕ). 2 * n) c.size_of.ensures ∙ sym (spelling_length c.in-Sound.c) ∙ sym (ap (needed_for spelling) c.in-Sound.is)
