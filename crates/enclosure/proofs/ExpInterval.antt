@@ -29,7 +29,7 @@ use Rattle.fixed.specs.declared.Log.{Log}
 use Rattle.fixed.specs.Logs.{fixed, up, dn, fixed_z, bracket, apart}
 use Rattle.enclosure.specs.Promises.{enough, Exponent, Exponential}
 use Rattle.enclosure.specs.ExpSteps.{low, high, binary, ExpAt, Lowered}
-use Rattle.enclosure.proofs.ClosedFractions.{below, tested}
+use Rattle.enclosure.proofs.ClosedFractions.{tested}
 
 -- the N-th lower end is there
 

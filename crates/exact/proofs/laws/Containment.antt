@@ -2,10 +2,9 @@
 -- interval that contains one bracket of a formula meets them all. With it a program that computes outward from some N on
 -- is proved operation by operation. Assumes nothing.
 use Rattle.std.specs.Prelude.{ℕ, zero, suc, ◌≤◌, ◌≡◌, refl, Bool, true, false}
-use Rattle.std.proofs.Common.{arith}
 use Rattle.std.proofs.lemmas.Bool.{false≢true}
 use Rattle.std.proofs.Math.Option.{Option, none, some}
-use Rattle.exact.specs.Fraction.{Ratio, ◌≼◌, Above0, whole, ◌⊖◌, sum, Frac, ◌⊑◌, Positive, zero_f, neg, magnitude, one_f}
+use Rattle.exact.specs.Fraction.{Ratio, ◌≼◌, Above0, whole, sum, Frac, ◌⊑◌, Positive, zero_f, neg, magnitude, one_f}
 use Rattle.exact.specs.Bracket.{Bracket, over_pairs}
 use Rattle.exact.specs.Series.{exp_lower, exp_upper}
 use Rattle.exact.specs.LnExp.{ln_lower_at, ln_upper_at, exp_upper_of, one_over_of, exp_lower_at, exp_upper_at}

@@ -3,7 +3,7 @@
 use Rattle.std.specs.Prelude.{ℕ, ◌+◌, ◌^◌, ◌≤◌}
 use Rattle.std.proofs.Math.Option.{some}
 use Rattle.std.proofs.Common.{arith}
-use Rattle.exact.specs.Fraction.{Ratio, ◌≼◌, ◌≈◌, Above0, whole, ◌⊗◌, ◌⊖◌, recip, power, Frac, ◌⊑◌, of_ratio, magnitude}
+use Rattle.exact.specs.Fraction.{Ratio, ◌≼◌, ◌≈◌, Above0, whole, ◌⊗◌, ◌⊖◌, recip, power, Frac, of_ratio, magnitude}
 use Rattle.exact.specs.Series.{one_over, third}
 use Rattle.exact.specs.Formula.{const, div, bracket_at, power_of}
 use Rattle.exact.proofs.laws.Containment.{Inside}

@@ -1,5 +1,4 @@
 -- `receptor::farthest` meets its contract: bisection between a distance that is accepted and one from which on none is. Assumes nothing.
-use Prim.Native.Nat.{◌-◌}
 use mathlib.Core.Path.{sym, ◌∙◌, ap}
 use native.Mathlib.Omega.{arith}
 use Rattle.guidance.specs.Distances.{farther, cube24}
