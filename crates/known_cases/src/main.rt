@@ -1,5 +1,6 @@
 // The test program: the known cases of document 01 that are not proved, the printed examples, and a separate high-precision calculation held against the answers.
 #![tactic(auto)]
+
 ghost use Rattle.io.specs.Counts.{IsPrefixLen};
 
 mod answers;
@@ -8,19 +9,46 @@ mod judging;
 mod planting;
 mod printing;
 
-// Reads a file of the data into the space, and answers its length.
-fn load(name: &[u8], space: &mut [u8]) -> usize
+use std::fs::File;
+use std::io::Read;
+
+// Reads until the space is full, the file ends or a read fails, and answers how many bytes it put at the start.
+fn fill(file: &mut File, space: &mut [u8]) -> usize
     ensures { IsPrefixLen result space.new }
 {
-    let fd = os::open_read(name);
-    let n = io::read_full(fd, space);
-    libc::close(fd);
-    n
+    let mut done = 0;
+    while done < space.len() {
+        let n = file.read(&mut space[done..]).unwrap_or(0);
+        if n == 0 {
+            return done;
+        }
+        done += n;
+    }
+    done
 }
 
-fn show_figures(name: &[u8]) {
+fn read_file(rt: &HostRuntime, path: &str, space: &mut [u8]) -> usize
+    ensures { IsPrefixLen result space.new }
+{
+    match File::open(rt, path) {
+        Ok(mut file) => fill(&mut file, space),
+        Err(_) => 0,
+    }
+}
+
+// Reads a file of the data into the space, and answers its length.
+fn load(rt: &HostRuntime, name: &[u8], space: &mut [u8]) -> usize
+    ensures { IsPrefixLen result space.new }
+{
+    match std::str::from_utf8(name) {
+        Ok(path) => read_file(rt, path, space),
+        Err(_) => 0,
+    }
+}
+
+fn show_figures(rt: &HostRuntime, name: &[u8]) {
     let mut space = io::buffer();
-    let n = load(name, &mut space);
+    let n = load(rt, name, &mut space);
     let counts = figures::show_all(&space[..n]);
     printing::print_counts(
         name,
@@ -29,9 +57,9 @@ fn show_figures(name: &[u8]) {
     );
 }
 
-fn show_vectors(name: &[u8], planted: bool, table: &[u64; 216]) {
+fn show_vectors(rt: &HostRuntime, name: &[u8], planted: bool, table: &[u64; 216]) {
     let mut space = io::large_buffer();
-    let n = load(name, &mut space);
+    let n = load(rt, name, &mut space);
     let counts = judging::judge_all(&space[..n], planted, table);
     printing::print_counts(
         name,
@@ -54,9 +82,9 @@ fn table_of(text: &[u8]) -> [u64; 216] {
     table
 }
 
-fn show_table() -> [u64; 216] {
+fn show_table(rt: &HostRuntime) -> [u64; 216] {
     let mut space = io::buffer();
-    let n = load(b"table", &mut space);
+    let n = load(rt, b"table", &mut space);
     printing::print_counts(
         b"table",
         b"; sum of its bytes ",
@@ -107,42 +135,44 @@ fn show_lengths() {
 }
 
 // What a file holds: vectors, vectors with planted faults, or figures.
-#[derive(Drop)]
+#[derive(Clone, Copy)]
 enum Kind {
     Vectors,
     Planted,
     Figures,
 }
 
-fn show_file(name: &[u8], kind: Kind, table: &[u64; 216]) {
+fn show_file(rt: &HostRuntime, name: &[u8], kind: Kind, table: &[u64; 216]) {
     match kind {
-        Kind::Vectors => show_vectors(name, false, table),
-        Kind::Planted => show_vectors(name, true, table),
-        Kind::Figures => show_figures(name),
+        Kind::Vectors => show_vectors(rt, name, false, table),
+        Kind::Planted => show_vectors(rt, name, true, table),
+        Kind::Figures => show_figures(rt, name),
     }
 }
 
 // The files whose names stand in a text, a line each.
-fn show_files(names: &[u8], kind: Kind, table: &[u64; 216]) {
+fn show_files(rt: &HostRuntime, names: &[u8], kind: Kind, table: &[u64; 216]) {
     let mut at = 0;
     while at < names.len() {
         let end = scan::line_end(names, at);
-        show_file(&names[at..end], kind, table);
+        show_file(rt, &names[at..end], kind, table);
         at = end + 1;
     }
 }
 
-fn main() {
+fn main(rt: HostRuntime) {
     show_readings();
     show_lengths();
-    let table = show_table();
+    let table = show_table(&rt);
     show_files(
+        &rt,
         b"known\nexamples\nsubstances\nclasses\nbranches\nboundaries\nextremes\nrefusals\nrandom\nairs",
         Kind::Vectors,
         &table,
     );
-    show_files(b"planted", Kind::Planted, &table);
+    show_files(&rt, b"planted", Kind::Planted, &table);
     show_files(
+        &rt,
         b"near\nfar\nprinted_003_1\nprinted_003_2\nprinted_004_80\nprinted_004_100\nprinted_004_135",
         Kind::Figures,
         &table,

@@ -1,11 +1,14 @@
 // What the program prints: numbers, counts with their words, the ends of a figure.
 
+// The standard output.
+const STDOUT: i32 = 1;
+
 pub(crate) fn print(text: &[u8]) {
-    io::write_all(libc::STDOUT_FILENO, text);
+    io::write_all(STDOUT, text);
 }
 
 pub(crate) fn print_number(n: u64) {
-    io::print_decimal(libc::STDOUT_FILENO, n);
+    io::print_decimal(STDOUT, n);
 }
 
 // A name, and counts, each behind its words, which stand in a line each.

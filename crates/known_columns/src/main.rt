@@ -1,6 +1,7 @@
 // The test program of columns: each request of its input, a line, is a sheet that is stored, by value and from lent bytes, or stored bytes that are turned back.
 // Its stored output is that of a separate calculation.
 #![tactic(auto)]
+
 ghost use Rattle.std.specs.Prelude.{◌≡◌, ◌≤◌, length};
 
 use areas::MARK;
@@ -8,6 +9,7 @@ use places::{Content, Held, Places};
 
 // The standard streams.
 const STDIN: i32 = 0;
+
 const STDOUT: i32 = 1;
 
 // The area that parts are lent of, and the most bytes that are turned back.

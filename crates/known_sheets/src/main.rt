@@ -1,6 +1,7 @@
 // The test program of sheets: each operation of its input, a line, on a sheet by value and on a lent one.
 // Its stored output is that of a separate calculation on a plain list with holes.
 #![tactic(auto)]
+
 ghost use Rattle.std.specs.Prelude.{◌≤◌, length};
 
 use guidance::Case;
@@ -8,6 +9,7 @@ use sheet::{Found, Placing, Sheet};
 
 // The standard streams.
 const STDIN: i32 = 0;
+
 const STDOUT: i32 = 1;
 
 fn print(text: &[u8]) {

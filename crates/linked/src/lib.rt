@@ -1,4 +1,4 @@
-// The entries for C and other languages: answers into a lent area, single figures, rings, rules, the old form's lines, frames and spellings that are written, a study sheet, and its cases stored by column.
+// The entries for C and other languages: answers into a lent area, single figures, rings, rules, the old form's lines, frames and spellings that are written, a study sheet, and its cases stored by column. The crate linked_c exports them.
 #![tactic(auto)]
 
 ghost use Rattle.std.specs.Prelude.{length};
@@ -20,8 +20,7 @@ pub mod sheets;
 pub mod writings;
 
 // A case given as a frame's bytes.
-#[unsafe(no_mangle)]
-pub extern "C" fn yakepuhi_from_frame(frame: &[u8], area: &mut [u8]) -> u64
+pub fn yakepuhi_from_frame(frame: &[u8], area: &mut [u8]) -> u64
     ensures { Entered (frame_verdict frame.now (length area.old)) result area.old area.new }
 {
     let v = answer::from_frame(frame, area);
@@ -29,8 +28,7 @@ pub extern "C" fn yakepuhi_from_frame(frame: &[u8], area: &mut [u8]) -> u64
 }
 
 // A case given as a line of hexadecimal digits.
-#[unsafe(no_mangle)]
-pub extern "C" fn yakepuhi_from_line(line: &[u8], area: &mut [u8]) -> u64
+pub fn yakepuhi_from_line(line: &[u8], area: &mut [u8]) -> u64
     ensures { Entered (line_verdict line.now (length area.old)) result area.old area.new }
 {
     let v = answer::from_line(line, area);
@@ -73,16 +71,14 @@ fn figure_alone(frame: &[u8], figure: Figure, lower: &mut u64, upper: &mut u64) 
 }
 
 // The overpressure alone, in whole pascals.
-#[unsafe(no_mangle)]
-pub extern "C" fn yakepuhi_overpressure(frame: &[u8], lower: &mut u64, upper: &mut u64) -> u64
+pub fn yakepuhi_overpressure(frame: &[u8], lower: &mut u64, upper: &mut u64) -> u64
     ensures { FigureAnswered own_overpressure frame.now lower.old upper.old result lower.new upper.new }
 {
     figure_alone(frame, Figure::Overpressure, lower, upper)
 }
 
 // The impulse alone, in whole pascal-seconds.
-#[unsafe(no_mangle)]
-pub extern "C" fn yakepuhi_impulse(frame: &[u8], lower: &mut u64, upper: &mut u64) -> u64
+pub fn yakepuhi_impulse(frame: &[u8], lower: &mut u64, upper: &mut u64) -> u64
     ensures { FigureAnswered own_impulse frame.now lower.old upper.old result lower.new upper.new }
 {
     figure_alone(frame, Figure::Impulse, lower, upper)

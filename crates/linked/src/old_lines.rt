@@ -2,8 +2,7 @@
 ghost use Rattle.linked.specs.OldLines.{CameIn, WentBack};
 
 // The frame of an old line.
-#[unsafe(no_mangle)]
-pub extern "C" fn yakepuhi_frame_from_old(line: &[u8], area: &mut [u8]) -> u64
+pub fn yakepuhi_frame_from_old(line: &[u8], area: &mut [u8]) -> u64
     ensures { CameIn line.now area.old result area.new }
 {
     let v = from_old::from_line(line, area);
@@ -11,8 +10,7 @@ pub extern "C" fn yakepuhi_frame_from_old(line: &[u8], area: &mut [u8]) -> u64
 }
 
 // The old line of a frame.
-#[unsafe(no_mangle)]
-pub extern "C" fn yakepuhi_old_from_frame(frame: &[u8], area: &mut [u8]) -> u64
+pub fn yakepuhi_old_from_frame(frame: &[u8], area: &mut [u8]) -> u64
     ensures { WentBack frame.now area.old result area.new }
 {
     let v = to_old::to_line(frame, area);

@@ -20,8 +20,7 @@ fn tell(a: Answer, pressure: &mut u64, impulse: &mut u64) -> u64
 }
 
 // The rules that gave ΔP and I of a case given as a frame's bytes, by their numbers.
-#[unsafe(no_mangle)]
-pub extern "C" fn yakepuhi_rules(frame: &[u8], pressure: &mut u64, impulse: &mut u64) -> u64
+pub fn yakepuhi_rules(frame: &[u8], pressure: &mut u64, impulse: &mut u64) -> u64
     ensures { Reasoned frame.now pressure.old impulse.old result pressure.new impulse.new }
 {
     let a = rules::from_frame(frame);

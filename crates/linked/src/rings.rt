@@ -19,8 +19,7 @@ fn give(a: Answer, inner: &mut u64, outer: &mut u64) -> u64
 }
 
 // The ring of a threshold in pascals, in cm, for a case given as a frame's bytes.
-#[unsafe(no_mangle)]
-pub extern "C" fn yakepuhi_ring_from_frame(
+pub fn yakepuhi_ring_from_frame(
     frame: &[u8],
     threshold: u64,
     inner: &mut u64,
@@ -33,13 +32,7 @@ pub extern "C" fn yakepuhi_ring_from_frame(
 }
 
 // The same for a case given as a line.
-#[unsafe(no_mangle)]
-pub extern "C" fn yakepuhi_ring_from_line(
-    line: &[u8],
-    threshold: u64,
-    inner: &mut u64,
-    outer: &mut u64,
-) -> u64
+pub fn yakepuhi_ring_from_line(line: &[u8], threshold: u64, inner: &mut u64, outer: &mut u64) -> u64
     ensures { Answered (FromLine line.now threshold) inner.old outer.old result inner.new outer.new }
 {
     let a = ring::from_line(line, threshold);

@@ -8,8 +8,7 @@ ghost use Rattle.linked.specs.Writings.{WroteCase, of_numbers};
 use guidance::Case;
 
 // The frame of eleven numbers.
-#[unsafe(no_mangle)]
-pub extern "C" fn yakepuhi_frame_from_fields(
+pub fn yakepuhi_frame_from_fields(
     substance: u64,
     state: u64,
     placement: u64,
@@ -42,16 +41,14 @@ pub extern "C" fn yakepuhi_frame_from_fields(
 }
 
 // The spelling of a case given as a frame's bytes.
-#[unsafe(no_mangle)]
-pub extern "C" fn yakepuhi_spell_frame(frame: &[u8], area: &mut [u8]) -> u64
+pub fn yakepuhi_spell_frame(frame: &[u8], area: &mut [u8]) -> u64
     ensures { WroteCase spelling (frame_verdict frame.now (length area.old)) area.old result area.new }
 {
     writable::code_of(writing::spell_frame(frame, area))
 }
 
 // The spelling of a case given as a line.
-#[unsafe(no_mangle)]
-pub extern "C" fn yakepuhi_spell_line(line: &[u8], area: &mut [u8]) -> u64
+pub fn yakepuhi_spell_line(line: &[u8], area: &mut [u8]) -> u64
     ensures { WroteCase spelling (line_verdict line.now (length area.old)) area.old result area.new }
 {
     writable::code_of(writing::spell_line(line, area))

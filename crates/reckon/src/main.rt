@@ -1,13 +1,17 @@
 // Reads lines from standard input to its end, and writes each line's record to standard output.
 #![tactic(auto)]
-ghost use Rattle.std.specs.Prelude.{length};
+
+ghost use Rattle.std.specs.Prelude.{◌≤◌, length};
 ghost use Rattle.text.specs.Streams.{Tells, TellsLast};
 ghost use Rattle.text.specs.Promises.{Ready};
 ghost use Rattle.reckon.specs.Passing.{Past, Relays, Passes, Buffers};
 ghost use Rattle.reckon.specs.Reading.{read_most, Runs};
 
-use libc::{STDIN_FILENO, STDOUT_FILENO};
+use std::io::{Read, Stdin};
 use text::Stream;
+
+// The standard output.
+const STDOUT: i32 = 1;
 
 // A proved loop has to end, and nothing says that an input does. So the reads are counted, up to a number that no run reaches.
 const BUDGET: u64 = 1 << 47;
@@ -40,14 +44,14 @@ struct Ran {
 fn tell(s: Stream, bytes: &[u8], text: &[u8]) -> bool
     requires { Tells s bytes.now text.now }
 {
-    io::write_all(STDOUT_FILENO, text)
+    io::write_all(STDOUT, text)
 }
 
 // Writes the text of the last line of s, which no LF ends.
 fn tell_last(s: Stream, text: &[u8]) -> bool
     requires { TellsLast s text.now }
 {
-    io::write_all(STDOUT_FILENO, text)
+    io::write_all(STDOUT, text)
 }
 
 // Feeds as much of a part as the area has room for the records of, and writes them.
@@ -102,14 +106,20 @@ fn last(s: Stream, out: &mut [u8]) -> bool
     tell_last(s, &out[..n])
 }
 
+// One read: how many bytes it brought. One that fails counts as the input's end.
+fn read_some(source: &mut Stdin, input: &mut [u8]) -> usize
+    ensures { result ≤ length input.new }
+{
+    source.read(input).unwrap_or(0)
+}
+
 // One read, and all that comes of it. No byte is used where the input has ended.
-fn turn(s: Stream, input: &mut [u8], out: &mut [u8]) -> Passed
+fn turn(source: &mut Stdin, s: Stream, input: &mut [u8], out: &mut [u8]) -> Passed
     requires buffers { Buffers input.old out.old }
     requires ready { Ready s read_most out.old }
     ensures { Past s input.new result.used result.stream }
 {
-    let got = libc::read(STDIN_FILENO, input);
-    let n = io::count(got, input);
+    let n = read_some(source, input);
     if n == 0 {
         let written = last(s, out);
         return Passed {
@@ -121,14 +131,14 @@ fn turn(s: Stream, input: &mut [u8], out: &mut [u8]) -> Passed
     pass(s, &input[..n], out)
 }
 
-fn run(input: &mut [u8], out: &mut [u8]) -> Ran
+fn run(source: &mut Stdin, input: &mut [u8], out: &mut [u8]) -> Ran
     requires { Buffers input.old out.old }
     ensures { Runs result }
 {
     let mut stream = text::start();
     let mut reads = 0;
     while reads < BUDGET {
-        let passed = turn(stream, input, out);
+        let passed = turn(source, stream, input, out);
         if !passed.written {
             return Ran {
                 end: End::Output,
@@ -154,8 +164,9 @@ fn run(input: &mut [u8], out: &mut [u8]) -> Ran
     }
 }
 
-fn main() {
+fn main(rt: HostRuntime) {
+    let mut source = rt.stdin();
     let mut input = io::large_buffer();
     let mut out = io::large_buffer();
-    run(&mut input, &mut out);
+    run(&mut source, &mut input, &mut out);
 }

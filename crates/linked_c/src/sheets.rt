@@ -1,0 +1,64 @@
+// The study sheet as lent bytes, and its cases stored by column, for C and other languages.
+ghost use Rattle.lent_sheet.specs.Calls.{withdraw, close, Adds, Acts, Shows, Totalled, Archives};
+ghost use Rattle.linked.specs.Columns.{TurnedBack};
+
+// The case of a frame's bytes, right after the last one; its place is told.
+#[unsafe(no_mangle)]
+pub extern "C" fn yakepuhi_sheet_add(sheet: &mut [u8], frame: &[u8], place: &mut u64) -> u64
+    ensures { Adds frame.now sheet.old place.old result sheet.new place.new }
+{
+    linked::sheets::yakepuhi_sheet_add(sheet, frame, place)
+}
+
+// The case at a place goes and leaves a gap.
+#[unsafe(no_mangle)]
+pub extern "C" fn yakepuhi_sheet_withdraw(sheet: &mut [u8], place: u64) -> u64
+    ensures { Acts (withdraw place) sheet.old result sheet.new }
+{
+    linked::sheets::yakepuhi_sheet_withdraw(sheet, place)
+}
+
+// The gaps go, the cases in order from place 1 on.
+#[unsafe(no_mangle)]
+pub extern "C" fn yakepuhi_sheet_close(sheet: &mut [u8]) -> u64
+    ensures { Acts close sheet.old result sheet.new }
+{
+    linked::sheets::yakepuhi_sheet_close(sheet)
+}
+
+// The frame of the case at a place.
+#[unsafe(no_mangle)]
+pub extern "C" fn yakepuhi_sheet_case(sheet: &[u8], place: u64, area: &mut [u8]) -> u64
+    ensures { Shows place sheet.now area.old result area.new }
+{
+    linked::sheets::yakepuhi_sheet_case(sheet, place, area)
+}
+
+// The totals: the number of cases, the greatest upper end, and the first place that has it, 0 for none.
+#[unsafe(no_mangle)]
+pub extern "C" fn yakepuhi_sheet_totals(
+    sheet: &[u8],
+    count: &mut u64,
+    greatest: &mut u64,
+    place: &mut u64,
+) -> u64
+    ensures { Totalled sheet.now count.old greatest.old place.old result count.new greatest.new place.new }
+{
+    linked::sheets::yakepuhi_sheet_totals(sheet, count, greatest, place)
+}
+
+// The frames of the cases by column.
+#[unsafe(no_mangle)]
+pub extern "C" fn yakepuhi_columns_from_sheet(sheet: &[u8], area: &mut [u8]) -> u64
+    ensures { Archives sheet.now area.old result area.new }
+{
+    linked::sheets::yakepuhi_columns_from_sheet(sheet, area)
+}
+
+// The frames of stored columns, 24 bytes each.
+#[unsafe(no_mangle)]
+pub extern "C" fn yakepuhi_frames_from_columns(stored: &[u8], area: &mut [u8]) -> u64
+    ensures { TurnedBack stored.now area.old result area.new }
+{
+    linked::sheets::yakepuhi_frames_from_columns(stored, area)
+}
