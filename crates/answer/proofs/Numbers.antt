@@ -10,7 +10,7 @@ use Rattle.guidance.specs.CloudWords.{CloudOf}
 use Rattle.guidance.specs.AirPressure.{air_of}
 use Rattle.guidance.specs.Waves.{overpressure, impulse}
 use Rattle.guidance.specs.Probits.{probit1, probit2, probit3, probit4, probit5}
-use Rattle.guidance.specs.laws.Limits.{range_most}
+use Rattle.guidance.proofs.laws.Limits.{range_most}
 use Rattle.layout.specs.declared.Ends.{Ends}
 use Rattle.layout.specs.declared.Probits.{Probits}
 use Rattle.blast.specs.declared.Wave.{Wave}

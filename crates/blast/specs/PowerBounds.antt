@@ -14,7 +14,7 @@ use Rattle.guidance.specs.Clouds.{energy}
 use Rattle.guidance.specs.Waves.{number, raised, third, two_thirds, thousandths}
 use Rattle.guidance.specs.Cases.{Air, Accepted}
 use Rattle.guidance.specs.declared.Case.{Case}
-use Rattle.guidance.specs.laws.Domain.{heated, least_energy, energy_least, energy_most}
+use Rattle.guidance.proofs.laws.Domain.{heated, least_energy, energy_least, energy_most}
 
 -- P0^(2/3)
 

@@ -29,7 +29,7 @@ use Rattle.fixed.specs.Logs.{up, dn, fixed, fixed_z, bracket}
 use Rattle.enclosure.specs.Promises.{Loggable, Logarithm}
 use Rattle.enclosure.specs.LogSteps.{ratio, biased, biased_pair, LnPoint, Slack, Unbiased}
 use Rattle.fixed.specs.SignedLaws.{least}
-use Rattle.signed.specs.Magnitude.{size}
+use Rattle.signed.proofs.Magnitude.{size}
 use Rattle.enclosure.proofs.OddSeries.{upper_to, ninth_from}
 use Rattle.span.specs.Powers.{powers}
 

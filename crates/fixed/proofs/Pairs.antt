@@ -11,8 +11,10 @@ use Rattle.fixed.specs.Logs.{Small}
 use Rattle.fixed.specs.Promises.{LogFactors, LogProduct}
 use Rattle.fixed.specs.ProductSteps.{Coarse, Mirror, Pairs, lowest_z}
 use Rattle.fixed.specs.SignedLaws.{one_sided, neg_up, neg_dn, floor_parts, min_of}
-use Rattle.signed.specs.Reading.{R, back}
-use Rattle.signed.specs.Magnitude.{Magnitude, looser, own}
+use Rattle.signed.specs.Reading.{R}
+use Rattle.signed.proofs.Back.{back}
+use Rattle.signed.specs.Magnitude.{Magnitude}
+use Rattle.signed.proofs.Magnitude.{looser, own}
 use Rattle.fixed.proofs.WordSteps.{Step, lower_end, upper_end, opposite, quotient, returned, opposite_step, shift_step, product_size, product_step}
 use Rattle.fixed.proofs.Products.{lowest_of, Around, around, mirrored, law}
 

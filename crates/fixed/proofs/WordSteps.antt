@@ -9,7 +9,8 @@ use lib.Signed.{shr_z}
 use mir.Syntax.{w64}
 use mir.Val.{SFits}
 use Rattle.signed.specs.Reading.{R}
-use Rattle.signed.specs.Magnitude.{Magnitude, looser, fits_word, own}
+use Rattle.signed.specs.Magnitude.{Magnitude}
+use Rattle.signed.proofs.Magnitude.{looser, fits_word, own}
 use Rattle.fixed.specs.declared.Log.{Log}
 use Rattle.fixed.specs.FloorAndCeiling.{up, dn, floor_z}
 use Rattle.fixed.specs.Logs.{Small}

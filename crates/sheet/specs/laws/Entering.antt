@@ -10,7 +10,7 @@ use Rattle.guidance.specs.Waves.{overpressure}
 use Rattle.hexadecimals.specs.Digits.{bytes_of}
 use Rattle.refusals.specs.declared.Fault.{Fault}
 use Rattle.refusals.specs.Order.{Test, ◌when◌, first_of, held}
-use Rattle.refusals.specs.laws.Order.{or_else, first_held, neither_found, passed}
+use Rattle.refusals.proofs.laws.Order.{or_else, first_held, neither_found, passed}
 use Rattle.fields.specs.Bytes.{fields_of}
 use Rattle.limits.specs.declared.Checked.{Checked}
 use Rattle.limits.specs.declared.Checked.TheVariants.{Sound}

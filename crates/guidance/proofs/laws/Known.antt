@@ -26,8 +26,8 @@ use Rattle.guidance.specs.Ranges.{ranges, range_at}
 use Rattle.guidance.specs.Clouds.{over, range_of, ground_factor, lean_by, lean_factor, aerosol_factor, energy}
 use Rattle.guidance.specs.Distances.{less, metres, nearer, cube02, cube025}
 use Rattle.guidance.specs.Waves.{number, thousandths, reduced_distance, aerosol_pressure, near_field, detonation_pressure, range_end, slow_front, front_speed_of, reduced_pressure, in_pascals, overpressure}
-use Rattle.guidance.specs.laws.Limits.{heat_given}
-use Rattle.guidance.specs.laws.Metres.{EnergyIsAir, nearer_metres, unit_distance, aerosol_within}
+use Rattle.guidance.proofs.laws.Limits.{heat_given}
+use Rattle.guidance.proofs.laws.Metres.{EnergyIsAir, nearer_metres, unit_distance, aerosol_within}
 
 -- the point v
 abbrev pub point : Ratio → Bracket

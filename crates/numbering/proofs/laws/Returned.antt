@@ -24,7 +24,7 @@ use Rattle.to_old.specs.declared.Verdict.TheVariants as back
 use Rattle.to_old.specs.Refusals as ways_back
 use Rattle.to_old.specs.Tests as old_tests
 use Rattle.refusals.specs.Order.{Test, ◌when◌, first_of}
-use Rattle.refusals.specs.laws.Order.{or_else, first_held, applies, absent}
+use Rattle.refusals.proofs.laws.Order.{or_else, first_held, applies, absent}
 use Rattle.fields.specs.Bytes.{fields_of}
 use Rattle.frame.specs.Tests.{frame_tests}
 use Rattle.sheet.specs.declared.Refusal as of_adding
@@ -38,7 +38,7 @@ use Rattle.linked.specs.OldLines.{CameIn, WentBack}
 use Rattle.linked.specs.Writings.{WroteCase}
 use Rattle.linked.specs.Reasons as reasons
 use Rattle.numbering.specs.Entries.Refused.{answer, ring, writing, old_line, way_back, adding}
-use Rattle.numbering.specs.laws.Retired.{retired}
+use Rattle.numbering.proofs.laws.Retired.{retired}
 
 code_retired : (v : Verdict) → code v ≡ 4 → ⊥
 code_retired (Accepted c) = λ e. omega arith
