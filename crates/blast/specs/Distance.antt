@@ -7,9 +7,9 @@ use Rattle.exact.specs.Fraction.{Ratio, ◌≼◌, ◌≈◌, Above0, whole, ◌
 use Rattle.exact.specs.Series.{one_over, third}
 use Rattle.exact.specs.Formula.{div, bracket_at, power_of}
 use Rattle.exact.proofs.laws.Ratio.{≼_refl, ≼_trans, to≼, from≼, ⊗_mono}
-use Rattle.exact.proofs.laws.Width.{half}
+use Rattle.exact.specs.laws.Width.{half}
 use Rattle.exact.proofs.laws.ExpSpread.{slack}
-use Rattle.exact.proofs.laws.Containment.{Inside}
+use Rattle.exact.specs.laws.Containment.{Inside}
 use Rattle.exact.proofs.laws.Points.{pair}
 use Rattle.exact.proofs.laws.Quotient.{cube_root_quotient}
 use Rattle.guidance.specs.declared.Case.{Case}

@@ -5,9 +5,9 @@ use native.Mathlib.Omega.{arith}
 use Rattle.std.proofs.Common.{mul-le-mul}
 use Rattle.exact.specs.Fraction.{Ratio, ◌≼◌, whole, ◌⊕◌, ◌⊗◌, ◌⊖◌, power, of_ratio}
 use Rattle.exact.specs.Series.{one_over}
-use Rattle.exact.proofs.laws.Width.{half}
+use Rattle.exact.specs.laws.Width.{half}
 use Rattle.exact.specs.Formula.{bracket_at}
-use Rattle.exact.proofs.laws.Containment.{Inside}
+use Rattle.exact.specs.laws.Containment.{Inside}
 use Rattle.exact.proofs.laws.Points.{pair}
 use Rattle.enclosure.specs.PowerWindows.{Reached, whole_reached, Bounded, power_between}
 use Rattle.guidance.specs.Clouds.{energy}
