@@ -19,7 +19,7 @@ use Rattle.frame.specs.Tests.{frame_tests, line_tests, beyond}
 use Rattle.frame.specs.Checks.{frame_checked, line_checked}
 use Rattle.layout.specs.declared.Ends.{Ends}
 use Rattle.blast.specs.Promises.{Ended}
-use Rattle.blast.specs.Ending.{wave_ends}
+use Rattle.blast.proofs.Ending.{wave_ends}
 use Rattle.places.specs.declared.Held.{Held}
 use Rattle.places.specs.declared.Content.TheVariants.{Taken}
 use Rattle.places.specs.Places.{stands_for}
