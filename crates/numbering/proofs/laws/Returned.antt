@@ -16,7 +16,7 @@ use Rattle.writable.specs.declared.Verdict as verdicts
 use Rattle.writable.specs.declared.Verdict.TheVariants as written
 use Rattle.writable.specs.Refusals as writings
 use Rattle.from_old.specs.declared.Verdict as old_verdicts
-use Rattle.from_old.specs.declared.Verdict.TheVariants as old_verdicts
+use Rattle.from_old.specs.declared.Verdict.TheVariants as ways_in
 use Rattle.from_old.specs.Refusals as old_lines
 use Rattle.from_old.specs.Tests.{line_verdict}
 use Rattle.to_old.specs.declared.Verdict as back_verdicts
@@ -73,8 +73,8 @@ pub came_in_not_4 : {line before after : List ℕ} {n : ℕ} → CameIn line bef
 came_in_not_4 {line} {before} e h = go (line_verdict line (length before)) (sym e.returned ∙ h)
   where
     go : (v : old_verdicts.Verdict) → old_lines.code v ≡ 4 → ⊥
-    go (old_verdicts.Accepted c) = λ z. omega arith
-    go (old_verdicts.Refused r) = retired (old_line r)
+    go (ways_in.Accepted c) = λ z. omega arith
+    go (ways_in.Refused r) = retired (old_line r)
 
 pub went_back_not_4 : {frame before after : List ℕ} {n : ℕ} → WentBack frame before n after → n ≡ 4 → ⊥
 went_back_not_4 {frame} {before} e h = go (old_tests.frame_verdict frame (length before)) (sym e.returned ∙ h)
