@@ -10,15 +10,15 @@ use Rattle.guidance.specs.CloudWords.{CloudOf}
 use Rattle.guidance.specs.AirPressure.{air_of}
 use Rattle.guidance.specs.Waves.{overpressure, impulse}
 use Rattle.guidance.specs.Probits.{probit1, probit2, probit3, probit4, probit5}
-use Rattle.guidance.specs.laws.Limits.{range_most}
+use Rattle.guidance.proofs.laws.Limits.{range_most}
 use Rattle.layout.specs.declared.Ends.{Ends}
 use Rattle.layout.specs.declared.Probits.{Probits}
 use Rattle.blast.specs.declared.Wave.{Wave}
 use Rattle.blast.specs.Promises.{WaveOf, Rounded}
-use Rattle.blast.specs.Ending.{pressure_ended, impulse_ended}
+use Rattle.blast.proofs.Ending.{pressure_ended, impulse_ended}
 use Rattle.probits.specs.Promises.{AllProbits}
 use Rattle.answer.specs.Entering.{FiguresOf}
-use Rattle.blast.specs.Ending.{wave_ends}
+use Rattle.blast.proofs.Ending.{wave_ends}
 use Rattle.answer.proofs.Exactness.{probit_ends}
 
 module _ {c : Case} {k : Cloud} {w : Wave} (a : Accepted (air_of c) c) (q : CloudOf c k) (v : WaveOf (air_of c) c w) where

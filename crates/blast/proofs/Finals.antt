@@ -21,7 +21,7 @@ use Rattle.blast.specs.Intermediates.{EnergySpan, Rootable, CubeRoot, EnergyRoot
 use Rattle.blast.specs.PowerBounds.{root_between}
 use Rattle.blast.proofs.Reduced.{air_encloses}
 
--- Px-as-P0
+-- Px·P0
 
 module _ {air : ℕ} {x p : Span} (a : Air air) (r : EnclosesSome reduced_pressure_window x) (w : Whole air p) where
   air_least : 1009 ≤ p.e

@@ -1,3 +1,4 @@
+pub mod Ending
 pub mod Joules
 pub mod Roots
 pub mod Reduced

@@ -7,9 +7,9 @@ use Rattle.exact.specs.Fraction.{Ratio, ◌≼◌, ◌≈◌, Above0, whole, ◌
 use Rattle.exact.specs.Series.{one_over, third}
 use Rattle.exact.specs.Formula.{div, bracket_at, power_of}
 use Rattle.exact.proofs.laws.Ratio.{≼_refl, ≼_trans, to≼, from≼, ⊗_mono}
-use Rattle.exact.proofs.laws.Width.{half}
+use Rattle.exact.specs.laws.Width.{half}
 use Rattle.exact.proofs.laws.ExpSpread.{slack}
-use Rattle.exact.proofs.laws.Containment.{Inside}
+use Rattle.exact.specs.laws.Containment.{Inside}
 use Rattle.exact.proofs.laws.Points.{pair}
 use Rattle.exact.proofs.laws.Quotient.{cube_root_quotient}
 use Rattle.guidance.specs.declared.Case.{Case}
@@ -17,7 +17,7 @@ use Rattle.guidance.specs.Clouds.{over}
 use Rattle.guidance.specs.Distances.{metres, nearer, cube02, cube025, cube034, cube24}
 use Rattle.guidance.specs.Waves.{number, raised, thousandths, reduced_distance}
 use Rattle.guidance.specs.Cases.{Air, Accepted}
-use Rattle.guidance.specs.laws.Domain.{heated, air_above, per_air, per_air_above, per_air-least, per_air-most, cube_least, cube_most, cube_is_02, cube_is_025, cube_is_034, cube_is_24}
+use Rattle.guidance.proofs.laws.Domain.{heated, air_above, per_air, per_air_above, per_air-least, per_air-most, cube_least, cube_most, cube_is_02, cube_is_025, cube_is_034, cube_is_24}
 use Rattle.exact.proofs.laws.Replacing.{Within, value_within, ratio_within, within_refl, mul_within, div_within, ln_within, exp_within, within_inside}
 
 -- E/P0 is a fraction

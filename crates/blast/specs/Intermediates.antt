@@ -139,7 +139,7 @@ pub record EnclosesSome (w : Window) (s : Span) : Type 0 where
   pub value : Formula
   pub enclosed : Enclosure value w s
 
--- whatever Px is in px, Px-as-P0 is in s; whatever Ix is in ix, Ix·P0^(2/3)·E^(1/3)/C0 is in s
+-- whatever Px is in px, Px·P0 is in s; whatever Ix is in ix, Ix·P0^(2/3)·E^(1/3)/C0 is in s
 
 pub record Pascals (air : ℕ) (px s : Span) : Type 0 where
   pub value : (x : Formula) → Enclosure x reduced_pressure_window px → PressureSpan (in_pascals air x) s

@@ -5,4 +5,3 @@ pub mod Distance
 pub mod Windows
 pub mod PowerBounds
 pub mod Exponents
-pub mod Ending

@@ -5,16 +5,16 @@ use native.Mathlib.Omega.{arith}
 use Rattle.std.proofs.Common.{mul-le-mul}
 use Rattle.exact.specs.Fraction.{Ratio, ◌≼◌, whole, ◌⊕◌, ◌⊗◌, ◌⊖◌, power, of_ratio}
 use Rattle.exact.specs.Series.{one_over}
-use Rattle.exact.proofs.laws.Width.{half}
+use Rattle.exact.specs.laws.Width.{half}
 use Rattle.exact.specs.Formula.{bracket_at}
-use Rattle.exact.proofs.laws.Containment.{Inside}
+use Rattle.exact.specs.laws.Containment.{Inside}
 use Rattle.exact.proofs.laws.Points.{pair}
 use Rattle.enclosure.specs.PowerWindows.{Reached, whole_reached, Bounded, power_between}
 use Rattle.guidance.specs.Clouds.{energy}
 use Rattle.guidance.specs.Waves.{number, raised, third, two_thirds, thousandths}
 use Rattle.guidance.specs.Cases.{Air, Accepted}
 use Rattle.guidance.specs.declared.Case.{Case}
-use Rattle.guidance.specs.laws.Domain.{heated, least_energy, energy_least, energy_most}
+use Rattle.guidance.proofs.laws.Domain.{heated, least_energy, energy_least, energy_most}
 
 -- P0^(2/3)
 

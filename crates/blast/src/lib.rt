@@ -298,7 +298,7 @@ fn reduced_impulse(c: Case, air: u64, s: Common) -> Span
     }
 }
 
-// Px in Pa: Px.P0.
+// Px in Pa: Px·P0.
 fn pascals(air: u64, px: Span) -> Span
     requires { (Air air) × (EnclosesSome reduced_pressure_window px) }
     ensures { Pascals air px result }

@@ -7,7 +7,7 @@ use mathlib.Core.Option.{Option, none, some}
 use native.Mathlib.Omega.{arith}
 use lib.Dec.{eqb, ltb}
 use lib.ListN.{length, get_or, take, drop, set, length-drop, length-set}
-use lib.Seq.{sets, take_all}
+use lib.Seq.{take_all}
 use borrow.Author.Tests.{lt-ltb, le-ltb, eq-eqb, ne_eqb}
 use borrow.Rule.Slice.PartMut.{put_mid}
 use Rattle.byte_numbers.specs.Storing.{Stored}
@@ -16,7 +16,6 @@ use Rattle.refusals.specs.Order.{first_of}
 use Rattle.columns.specs.declared.Refusal.{Refusal}
 use Rattle.columns.specs.declared.Refusal.TheVariants.{Columns, Space}
 use Rattle.columns.specs.declared.Storing.TheVariants as store
-use Rattle.columns.specs.declared.Restoring.{Restoring}
 use Rattle.columns.specs.declared.Restoring.TheVariants as restore
 use Rattle.columns.specs.Transposed.{transposed}
 use Rattle.columns.specs.Stored.{stored, restored, damaged, restore_tests, Stores, Restores}

@@ -30,7 +30,7 @@ not_above (x ∷ xs) probit = cond (leb (10 * x) probit) (suc (not_above xs prob
 unfoldable pub tenths_of_percent : ℕ → ℕ
 tenths_of_percent n = cond (leb n 99) (10 * n) (891 + n)
 
--- the greatest tabulated probability whose probit is not above: the table rises, so that it is that of the last entry counted (laws/Readings, `damage-is-greatest`)
+-- the greatest tabulated probability whose probit is not above: the table rises, so that it is that of the last entry counted (laws/Readings, `damage_is_greatest`)
 unfoldable pub damage : ℤ → ℕ
 damage (pos probit) = tenths_of_percent (not_above table probit)
 damage (negsuc n) = 0

@@ -11,7 +11,8 @@ use Rattle.exact.specs.Fraction.{Ratio, ◌≼◌, ◌≈◌, Above0, whole, ◌
 use Rattle.exact.proofs.laws.Ratio.{to≼, from≼, ≼_refl}
 use Rattle.exact.specs.Series.{factorial, exp_term, exp_lower, exp_tail, exp_upper}
 use Rattle.exact.proofs.laws.Tables.{both, both_left, both_right, every, at_entry}
-use Rattle.exact.proofs.laws.Reduction.{Most, Least, most_upper, most_mono, most_times, least_mono, least_times}
+use Rattle.exact.specs.laws.Reduction.{Most, Least}
+use Rattle.exact.proofs.laws.Reduction.{most_upper, most_mono, most_times, least_mono, least_times}
 use Rattle.span.specs.declared.Span.{Span}
 use Rattle.span.specs.Spans.{unit}
 use Rattle.enclosure.specs.ExpTables.{entry_of, small_table, sixteenth_table, one_table, sixteen_table}

@@ -8,7 +8,7 @@ use lib.IntN.{ℤ, pos, negsuc}
 use Rattle.exact.specs.Fraction.{Ratio, ◌≼◌, Above0, whole, ◌⊕◌, ◌⊗◌, ◌⊖◌, power, Frac, ◌⊑◌, zero_f, neg, ◌⊞◌, ◌⊠◌, of_ratio, magnitude}
 use Rattle.exact.proofs.laws.Ratio.{≼_refl, ≼_trans, zero-≼, ⊗_mono}
 use Rattle.exact.specs.Series.{one_over}
-use Rattle.exact.proofs.laws.Width.{half}
+use Rattle.exact.specs.laws.Width.{half}
 use Rattle.exact.specs.laws.Decide.{dec_f}
 use Rattle.exact.proofs.laws.Frac.{⊑_refl, ⊑_trans, ⊠-mono}
 use Rattle.exact.specs.Bracket.{Bracket}
@@ -16,9 +16,11 @@ use Rattle.exact.proofs.laws.EndsMeet.{of_ratio_mono, Below, exp_below}
 use Rattle.exact.specs.LnExp.{exp_lower_at, exp_upper_at}
 use Rattle.exact.specs.Formula.{lift, ◌>>◌, exp_b}
 use Rattle.exact.proofs.laws.Meeting.{ends}
-use Rattle.exact.proofs.laws.Containment.{Inside, exp_isotone}
+use Rattle.exact.specs.laws.Containment.{Inside}
+use Rattle.exact.proofs.laws.Containment.{exp_isotone}
 use Rattle.exact.proofs.laws.Points.{point, pair, signed_above, signed_product, product_signed}
-use Rattle.exact.proofs.laws.Reduction.{most_upper, least_one, room, LowerEnd, lower_from, lower_from_negative}
+use Rattle.exact.specs.laws.Reduction.{LowerEnd}
+use Rattle.exact.proofs.laws.Reduction.{most_upper, least_one, room, lower_from, lower_from_negative}
 use Rattle.exact.proofs.laws.ExpSpread.{slack, exp_ends_near}
 use Rattle.exact.specs.Holding.{◌∈◌}
 use Rattle.span.specs.declared.Span.{Span}
@@ -29,7 +31,7 @@ use Rattle.fixed.specs.declared.Log.{Log}
 use Rattle.fixed.specs.Logs.{fixed, up, dn, fixed_z, bracket, apart}
 use Rattle.enclosure.specs.Promises.{enough, Exponent, Exponential}
 use Rattle.enclosure.specs.ExpSteps.{low, high, binary, ExpAt, Lowered}
-use Rattle.enclosure.proofs.ClosedFractions.{below, tested}
+use Rattle.enclosure.proofs.ClosedFractions.{tested}
 
 -- the N-th lower end is there
 

@@ -9,7 +9,8 @@ use Rattle.exact.proofs.laws.Ratio.{≼_refl, ≼_trans, to≼, ⊗_mono}
 use Rattle.exact.proofs.laws.Frac.{⊑_trans}
 use Rattle.exact.proofs.laws.EndsMeet.{of_ratio_mono}
 use Rattle.exact.proofs.laws.LogAbove.{powers_of_two}
-use Rattle.exact.proofs.laws.Reduction.{Most, most_mono, least_mono, UpperEnd, lower_from, upper_from, lower_from_negative, upper_from_negative, most_times, most_upper}
+use Rattle.exact.specs.laws.Reduction.{Most, UpperEnd}
+use Rattle.exact.proofs.laws.Reduction.{most_mono, least_mono, lower_from, upper_from, lower_from_negative, upper_from_negative, most_times, most_upper}
 use Rattle.exact.specs.Series.{factorial, exp_term, exp_lower, exp_tail, exp_upper}
 use Rattle.exact.specs.Holding.{◌∈◌}
 use Rattle.span.specs.declared.Span.{Span}

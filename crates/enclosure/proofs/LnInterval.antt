@@ -13,7 +13,8 @@ use Rattle.exact.proofs.laws.Ratio.{⊗_mono}
 use Rattle.exact.specs.Series.{one_over}
 use Rattle.exact.proofs.laws.Ln.{whole_mono}
 use Rattle.exact.proofs.laws.Width.{ninth}
-use Rattle.exact.proofs.laws.Fixed.{Upper, upper_sum}
+use Rattle.exact.specs.laws.Fixed.{Upper}
+use Rattle.exact.proofs.laws.Fixed.{upper_sum}
 use Rattle.exact.proofs.laws.Frac.{⊑_refl, ⊑_trans}
 use Rattle.exact.specs.laws.Divisors.{magnitude_above}
 use Rattle.exact.specs.LnExp.{ln_lower_at}
@@ -29,7 +30,7 @@ use Rattle.fixed.specs.Logs.{up, dn, fixed, fixed_z, bracket}
 use Rattle.enclosure.specs.Promises.{Loggable, Logarithm}
 use Rattle.enclosure.specs.LogSteps.{ratio, biased, biased_pair, LnPoint, Slack, Unbiased}
 use Rattle.fixed.specs.SignedLaws.{least}
-use Rattle.signed.specs.Magnitude.{size}
+use Rattle.signed.proofs.Magnitude.{size}
 use Rattle.enclosure.proofs.OddSeries.{upper_to, ninth_from}
 use Rattle.span.specs.Powers.{powers}
 

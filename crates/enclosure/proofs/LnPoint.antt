@@ -13,7 +13,8 @@ use Rattle.exact.proofs.laws.LnSeries.{gap_anti, series_lower_mono, series_upper
 use Rattle.exact.specs.laws.Divisors.{gap_argument, magnitude_above, one_magnitude, one_recip}
 use Rattle.exact.specs.LnExp.{ln_lower, ln_upper}
 use Rattle.exact.specs.laws.Decide.{dec_f}
-use Rattle.exact.proofs.laws.Fixed.{Lower, Upper, lower_sum, upper_sum}
+use Rattle.exact.specs.laws.Fixed.{Lower, Upper}
+use Rattle.exact.proofs.laws.Fixed.{lower_sum, upper_sum}
 use Rattle.exact.proofs.laws.Frac.{⊑_trans}
 use Rattle.exact.proofs.laws.Points.{ln_low_above, ln_high_above, ln_low_below, ln_high_below}
 use Rattle.span.specs.Spans.{unit, unit_positive, units}

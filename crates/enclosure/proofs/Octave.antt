@@ -15,7 +15,7 @@ use Rattle.exact.specs.laws.Divisors.{gap_third, gap_argument}
 use Rattle.exact.specs.LnExp.{ln2_lower, ln2_upper, ln_lower, ln_upper}
 use Rattle.exact.proofs.laws.Octaves.{third_two, argument_one, zero_times, zero_terms, zero_zero, twice_zero}
 use Rattle.exact.proofs.laws.Width.{ninth}
-use Rattle.exact.proofs.laws.Fixed.{Lower, Upper}
+use Rattle.exact.specs.laws.Fixed.{Lower, Upper}
 use Rattle.enclosure.proofs.OddSeries.{lower_to, upper_to, upper_near, ninth_from}
 
 gap_zero : Above0 (gap (whole 0))

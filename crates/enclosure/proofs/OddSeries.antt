@@ -13,7 +13,8 @@ use Rattle.exact.specs.Series.{one_over, even, odd, ln_term, gap, series_lower, 
 use Rattle.exact.specs.laws.Positive.{odd_pos}
 use Rattle.exact.proofs.laws.LnSeries.{even_is, series_lower_grows, series_lower_upper}
 use Rattle.exact.proofs.laws.Width.{after_suc, ninth, series_width}
-use Rattle.exact.proofs.laws.Fixed.{Lower, Upper, lower_sum, upper_sum, lower_product, upper_product}
+use Rattle.exact.specs.laws.Fixed.{Lower, Upper}
+use Rattle.exact.proofs.laws.Fixed.{lower_sum, upper_sum, lower_product, upper_product}
 use Rattle.enclosure.specs.LogSteps.{ratio, Third, Series}
 
 -- Bounds in S-ths

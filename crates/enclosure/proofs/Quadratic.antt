@@ -7,7 +7,7 @@ use lib.Pow.{pow_pos}
 use Rattle.exact.specs.Fraction.{Ratio, ◌≼◌, ◌≈◌, Above0, whole, ◌⊕◌, ◌⊗◌, ◌⊖◌, recip, power, sum}
 use Rattle.exact.proofs.laws.Ratio.{≼_refl, ≼_trans, to≼, from≼, ⊕-mono, ⊗_mono, recip_anti, ⊖-anti}
 use Rattle.exact.specs.Series.{one_over, factorial, exp_term, exp_lower, exp_tail, exp_upper}
-use Rattle.exact.proofs.laws.Width.{half}
+use Rattle.exact.specs.laws.Width.{half}
 use Rattle.exact.proofs.laws.Exp.{term_mono}
 use Rattle.exact.proofs.laws.Reduction.{most_upper, most_mono}
 use Rattle.enclosure.specs.ExpSteps.{low, high, binary, spare, ExpIn}

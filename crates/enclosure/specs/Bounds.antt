@@ -12,7 +12,8 @@ use Rattle.exact.proofs.laws.Exp.{exp_lower_mono}
 use Rattle.exact.proofs.laws.EndsMeet.{signed, of_ratio_mono, Below, exp_below}
 use Rattle.exact.proofs.laws.Containment.{AtMost, exp_lower_end}
 use Rattle.exact.proofs.laws.Points.{signed_above, signed_most, signed_least}
-use Rattle.exact.proofs.laws.Reduction.{Most, Least, LowerEnd, UpperEnd, least_mono, lower_from}
+use Rattle.exact.specs.laws.Reduction.{Most, Least, LowerEnd, UpperEnd}
+use Rattle.exact.proofs.laws.Reduction.{least_mono, lower_from}
 use Rattle.exact.specs.Holding.{◌∈◌}
 use Rattle.span.specs.declared.Span.{Span}
 use Rattle.span.specs.Spans.{unit, units, hull, Width}

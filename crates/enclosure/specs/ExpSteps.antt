@@ -3,9 +3,9 @@
 use Rattle.std.specs.Prelude.{◌≡◌, ℕ, ◌+◌, ◌*◌, ◌^◌, ◌≤◌}
 use Rattle.std.proofs.Common.{pow_pos}
 use Rattle.exact.specs.Fraction.{Ratio, ◌≼◌, whole, ◌⊕◌, ◌⊗◌, power}
-use Rattle.exact.proofs.laws.Width.{half}
+use Rattle.exact.specs.laws.Width.{half}
 use Rattle.exact.specs.LnExp.{exp_lower_at, exp_upper_at}
-use Rattle.exact.proofs.laws.Reduction.{Most, Least, LowerEnd, UpperEnd}
+use Rattle.exact.specs.laws.Reduction.{Most, Least, LowerEnd, UpperEnd}
 use Rattle.span.specs.declared.Span.{Span}
 use Rattle.span.specs.Spans.{unit, unit_positive, Normal, Width}
 use Rattle.fixed.specs.Logs.{fixed}

@@ -4,7 +4,7 @@ use Rattle.std.specs.Prelude.{◌≡◌, ℕ, ◌+◌, ◌*◌, ◌-◌, ◌^◌
 use Rattle.exact.specs.Fraction.{Ratio, Above0, whole, ◌⊕◌, ◌⊗◌, Frac, Positive}
 use Rattle.exact.specs.Series.{gap, series_lower, series_upper}
 use Rattle.exact.specs.LnExp.{ln2_lower, ln2_upper}
-use Rattle.exact.proofs.laws.Fixed.{Lower, Upper}
+use Rattle.exact.specs.laws.Fixed.{Lower, Upper}
 use Rattle.exact.specs.Bracket.{Bracket}
 use Rattle.span.specs.Spans.{units}
 use Rattle.span.specs.Unary.{LnWithin}

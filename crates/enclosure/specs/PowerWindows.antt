@@ -1,5 +1,5 @@
 -- For the callers: where x^a lies for fractions x and a = p/q, from whole powers, for every N from a constant on: between two numbers
--- (`power-between`), or within a span of the source (`power-enclosed`). Assumes nothing.
+-- (`power_between`), or within a span of the source (`power_enclosed`). Assumes nothing.
 use Rattle.std.specs.Prelude.{ℕ, suc, ◌+◌, ◌*◌, ◌-◌, ◌^◌, ◌≤◌, ◌≡◌}
 use Rattle.std.proofs.Common.{sym, ap, add-one, arith, mul-le-mul_right, pow_pos}
 use Rattle.std.proofs.Math.Option.{some}
@@ -7,9 +7,9 @@ use Rattle.exact.specs.Fraction.{Ratio, ◌≼◌, Above0, whole, ◌⊕◌, ◌
 use Rattle.exact.specs.Series.{one_over}
 use Rattle.exact.specs.Formula.{const, power_of, bracket_at}
 use Rattle.exact.proofs.laws.Ratio.{≼_refl, ≼_trans, ⊗_mono, power_mono}
-use Rattle.exact.proofs.laws.Width.{half}
+use Rattle.exact.specs.laws.Width.{half}
 use Rattle.exact.proofs.laws.ExpSpread.{slack}
-use Rattle.exact.proofs.laws.Containment.{Inside}
+use Rattle.exact.specs.laws.Containment.{Inside}
 use Rattle.exact.proofs.laws.Points.{pair, signed_least, signed_most, positive_of}
 use Rattle.exact.proofs.laws.PowerEnds.{power_ends, less_above, ends_between}
 use Rattle.exact.proofs.laws.Quotient.{recip_below}

@@ -11,7 +11,8 @@ use mir.Syntax.{w64}
 use mir.Val.{SFits}
 use borrow.Author.Tests.{le-leb, le-ltb}
 use Rattle.fixed.specs.FloorAndCeiling.{floor_z}
-use Rattle.signed.specs.Reading.{R, back}
+use Rattle.signed.specs.Reading.{R}
+use Rattle.signed.proofs.Back.{back}
 
 fits : {e v : ℤ} → e ≡ v → mag v < 2 ^ 63 → SFits w64 e
 fits p h = rw p (record { sfits = h })

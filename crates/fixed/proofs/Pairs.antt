@@ -1,7 +1,7 @@
 -- The machine's steps of a product: the factors in units of 2^-28, the mirrored factor, and the least product of two ends. Assumes nothing.
 use mathlib.Core.Path.{◌≡◌, sym, ap, ◌∙◌}
 use mathlib.Core.Bool.{Bool, true, false, cond}
-use Prim.Native.Nat.{ℕ, ◌*◌, ◌^◌, ◌≤◌, ◌<◌}
+use Prim.Native.Nat.{ℕ, ◌^◌, ◌≤◌, ◌<◌}
 use native.Mathlib.Omega.{arith}
 use lib.IntN.{ℤ, pos, neg_ℤ, ◌*ℤ◌, ◌-ℤ◌}
 use lib.Signed.{mag, lt_z, shr_z}
@@ -11,8 +11,10 @@ use Rattle.fixed.specs.Logs.{Small}
 use Rattle.fixed.specs.Promises.{LogFactors, LogProduct}
 use Rattle.fixed.specs.ProductSteps.{Coarse, Mirror, Pairs, lowest_z}
 use Rattle.fixed.specs.SignedLaws.{one_sided, neg_up, neg_dn, floor_parts, min_of}
-use Rattle.signed.specs.Reading.{R, back}
-use Rattle.signed.specs.Magnitude.{Magnitude, looser, own}
+use Rattle.signed.specs.Reading.{R}
+use Rattle.signed.proofs.Back.{back}
+use Rattle.signed.specs.Magnitude.{Magnitude}
+use Rattle.signed.proofs.Magnitude.{looser, own}
 use Rattle.fixed.proofs.WordSteps.{Step, lower_end, upper_end, opposite, quotient, returned, opposite_step, shift_step, product_size, product_step}
 use Rattle.fixed.proofs.Products.{lowest_of, Around, around, mirrored, law}
 

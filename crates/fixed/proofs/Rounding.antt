@@ -1,7 +1,7 @@
 -- The machine's steps of the two roundings to thousandths: an end times 1000, shifted; upward it is minus the shift of the opposite.
 -- Assumes nothing.
 use mathlib.Core.Path.{◌≡◌, refl}
-use Prim.Native.Nat.{◌*◌, ◌^◌}
+use Prim.Native.Nat.{◌^◌}
 use native.Mathlib.Omega.{arith}
 use lib.IntN.{ℤ, pos, neg_ℤ, ◌*ℤ◌, ◌-ℤ◌}
 use lib.Signed.{shr_z}

@@ -1,9 +1,9 @@
 -- Sums and differences of intervals: what the ends of the result are decides all that is promised of it. Assumes nothing.
 use mathlib.Core.Path.{◌≡◌, refl}
-use Prim.Native.Nat.{ℕ, ◌+◌}
+use Prim.Native.Nat.{ℕ}
 use native.Mathlib.Omega.{arith}
 use lib.IntN.{ℤ, ◌+ℤ◌, ◌-ℤ◌}
-use Rattle.exact.specs.Fraction.{◌⊑◌, ◌⊞◌, ◌⊟◌, neg}
+use Rattle.exact.specs.Fraction.{◌⊞◌, ◌⊟◌, neg}
 use Rattle.exact.proofs.laws.Frac.{⊑_trans, ⊞-mono, ⊟-mono}
 use Rattle.fixed.specs.declared.Log.{Log}
 use Rattle.fixed.specs.FloorAndCeiling.{up, dn}

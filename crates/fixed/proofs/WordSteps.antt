@@ -1,7 +1,7 @@
 -- Steps on signed words: a `Step` says of what the code computes that it fits and what is read back of it; there is one for each operation.
 -- Assumes nothing.
 use mathlib.Core.Path.{◌≡◌, refl, ap, ◌∙◌}
-use Prim.Native.Nat.{ℕ, ◌+◌, ◌*◌, ◌^◌, ◌≤◌}
+use Prim.Native.Nat.{ℕ, ◌*◌, ◌^◌, ◌≤◌}
 use native.Mathlib.Nat.{mul-le-mul_right, div-le_self}
 use native.Mathlib.Omega.{arith}
 use lib.IntN.{ℤ, pos, negsuc, neg_ℤ, ◌+ℤ◌, ◌-ℤ◌, ◌*ℤ◌, +ℤ_idl}
@@ -9,7 +9,8 @@ use lib.Signed.{shr_z}
 use mir.Syntax.{w64}
 use mir.Val.{SFits}
 use Rattle.signed.specs.Reading.{R}
-use Rattle.signed.specs.Magnitude.{Magnitude, looser, fits_word, own}
+use Rattle.signed.specs.Magnitude.{Magnitude}
+use Rattle.signed.proofs.Magnitude.{looser, fits_word, own}
 use Rattle.fixed.specs.declared.Log.{Log}
 use Rattle.fixed.specs.FloorAndCeiling.{up, dn, floor_z}
 use Rattle.fixed.specs.Logs.{Small}

@@ -2,7 +2,7 @@
 -- constants, widths and sizes. A proof about a formula is then a term of the formula's shape. Assumes nothing.
 use Rattle.std.specs.Prelude.{◌≡◌, ℕ, suc, ◌+◌, ◌*◌, ◌^◌, ◌≤◌, pos, negsuc}
 use Rattle.std.proofs.Common.{ap, mul-le-mul_right, le_of_mul-le-mul_right, arith}
-use Rattle.exact.specs.Fraction.{neg, Ratio, Frac, ◌⊑◌, of_ratio, ◌⊠◌}
+use Rattle.exact.specs.Fraction.{neg, Ratio, Frac, ◌⊑◌, of_ratio}
 use Rattle.exact.proofs.laws.Frac.{⊑_trans, ⊠-comm}
 use Rattle.exact.specs.Formula.{Formula, const, add, sub, mul, bracket_at}
 use Rattle.exact.proofs.laws.Containment.{contains_holds}

@@ -6,7 +6,7 @@ use Rattle.std.proofs.Common.{pow_pos}
 use Rattle.exact.specs.Fraction.{Frac}
 use Rattle.exact.specs.Bracket.{Bracket}
 use Rattle.exact.specs.Formula.{Formula, bracket_at}
-use Rattle.exact.proofs.laws.Containment.{Inside}
+use Rattle.exact.specs.laws.Containment.{Inside}
 use Rattle.fixed.specs.declared.Log.{Log}
 pub use Rattle.fixed.specs.FloorAndCeiling.{up, dn}
 

@@ -1,6 +1,6 @@
 -- Whole thousandths around an interval: downward from its lower end and upward from its upper end, also below zero (document 01, "What exact means":
 -- an interval and a bracket meet, for a probit, in thousandths). Assumes nothing.
-use Rattle.std.specs.Prelude.{◌*◌, ◌^◌, ℤ, pos, ◌*ℤ◌}
+use Rattle.std.specs.Prelude.{◌^◌, ℤ, pos, ◌*ℤ◌}
 use Rattle.std.proofs.Common.{arith}
 use Rattle.exact.specs.Fraction.{Frac}
 use Rattle.exact.specs.Bracket.{Bracket}

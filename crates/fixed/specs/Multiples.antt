@@ -1,7 +1,6 @@
 -- Multiples of an interval by p / d: the ends divided downward and upward decide all that is promised. Assumes nothing.
 use Rattle.std.specs.Prelude.{◌≡◌, ℕ, ◌+◌, ◌*◌, ◌≤◌, ◌<◌, ℤ, pos, ◌*ℤ◌}
 use Rattle.std.proofs.Common.{mul-le-mul_right, le_of_mul-le-mul_right, lt_of_mul-lt-mul_right, arith}
-use Rattle.exact.specs.Fraction.{◌⊑◌}
 use Rattle.exact.proofs.laws.Frac.{⊑_trans, scale_mono}
 use Rattle.fixed.specs.declared.Log.{Log}
 use Rattle.fixed.specs.FloorAndCeiling.{up, dn, floor_z, ceil_z}

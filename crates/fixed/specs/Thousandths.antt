@@ -3,7 +3,7 @@
 use Rattle.std.specs.Prelude.{◌≡◌, ℕ, ◌+◌, ◌*◌, ◌^◌, ◌≤◌, ℤ}
 use Rattle.std.proofs.Common.{arith}
 use Rattle.exact.specs.Formula.{Formula, bracket_at}
-use Rattle.exact.proofs.laws.Pairs.{◌⊆◌}
+use Rattle.exact.specs.laws.Pairs.{◌⊆◌}
 use Rattle.exact.proofs.laws.Containment.{contains_holds, inside_wider}
 use Rattle.exact.specs.Holding.{Holds}
 use Rattle.fixed.specs.declared.Log.{Log}

@@ -9,4 +9,3 @@ pub mod Probits
 pub mod Cases
 pub mod CloudWords
 pub mod CaseQ
-pub mod laws

@@ -26,7 +26,7 @@ probit3_at air body p i =
 unfoldable pub probit4_at : (p : Formula) → Formula
 probit4_at p = add (minus (tenths 126)) (mul (number (thousandths 1524)) (ln p))
 
--- 5 - 2.44 ln[7380/P + 1,300,000,000/(P-as-I)]
+-- 5 - 2.44 ln[7380/P + 1,300,000,000/(P·I)]
 unfoldable pub probit5_at : (p i : Formula) → Formula
 probit5_at p i = sub (number (whole 5)) (mul (number (hundredths 244)) (ln (add (div (number (whole 7380)) p) (div (number (whole 1300000000)) (mul p i)))))
 

@@ -154,7 +154,7 @@ reduced_pressure air c = cond (deflagrates c) (least (deflagration_pressure air 
 unfoldable pub reduced_impulse : (air : ℕ) → Case → Formula
 reduced_impulse air c = cond (deflagrates c) (least (deflagration_impulse air c) (detonation_impulse air c)) (detonation_impulse air c)
 
--- Px in Pa: Px-as-P0; Ix in Pa·s: Ix·P0^(2/3)·E^(1/3)/C0
+-- Px in Pa: Px·P0; Ix in Pa·s: Ix·P0^(2/3)·E^(1/3)/C0
 
 unfoldable pub in_pascals : (air : ℕ) → Formula → Formula
 in_pascals air px = mul px (number (whole air))

@@ -12,7 +12,7 @@ use Rattle.guidance.specs.declared.Case.{Case}
 use Rattle.places.specs.declared.Held.{Held}
 use Rattle.refusals.specs.declared.Fault.{Fault}
 use Rattle.refusals.specs.Order.{Test, ◌when◌, first_of, held}
-use Rattle.refusals.specs.laws.Order.{or_else, first_held, first_append}
+use Rattle.refusals.proofs.laws.Order.{or_else, first_held, first_append}
 use Rattle.fields.specs.Bytes.{fields_of, frame_bytes}
 use Rattle.frame.specs.Tests.{frame_tests}
 use Rattle.places.specs.Holes.{at}

@@ -1,4 +1,2 @@
--- Laws of the definitions.
-pub mod Retired
-pub mod Returned
+-- What a law speaks of.
 pub mod Words

@@ -10,7 +10,7 @@ use Rattle.fixed.specs.Logs.{Narrow, Small}
 use Rattle.fixed.specs.Promises.{Summands, LogSum, LogDifference, Scalable, Scaled}
 use Rattle.fixed.specs.Millis.{floor_milli, ceil_milli}
 use Rattle.signed.specs.Reading.{R}
-use Rattle.signed.specs.Magnitude.{own}
+use Rattle.signed.proofs.Magnitude.{own}
 use Rattle.fixed.specs.Thousandths.{thousandths, millis_hold}
 use Rattle.fixed.specs.Enclosing.{constant_encloses, sum_encloses, difference_encloses, scaled_encloses, ratio_value, wider, larger}
 use Rattle.enclosure.specs.Promises.{reach, Loggable, Logarithm}

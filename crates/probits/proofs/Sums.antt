@@ -1,5 +1,5 @@
 -- The sums under the logarithms of Pr1, Pr2, Pr3 and Pr5, and the probits over them. Assumes nothing.
-use Prim.Native.Nat.{ℕ, ◌-◌, ◌≤◌}
+use Prim.Native.Nat.{ℕ, ◌≤◌}
 use native.Mathlib.Omega.{arith}
 use lib.IntN.{ℤ}
 use Rattle.span.specs.declared.Span.{Span}

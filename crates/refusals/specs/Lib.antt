@@ -1,3 +1,2 @@
 pub mod Faults
 pub mod Order
-pub mod laws

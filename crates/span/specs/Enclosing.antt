@@ -6,7 +6,8 @@ use Rattle.std.proofs.Common.{mul-le-mul_right, mul-lt-mul_of_pos_right, arith, 
 use Rattle.exact.specs.Fraction.{Frac}
 use Rattle.exact.specs.Formula.{Formula, const, add, sub, mul, div, least, bracket_at}
 use Rattle.exact.proofs.laws.Meeting.{meeting}
-use Rattle.exact.proofs.laws.Containment.{Inside, contains_holds}
+use Rattle.exact.specs.laws.Containment.{Inside}
+use Rattle.exact.proofs.laws.Containment.{contains_holds}
 use Rattle.exact.proofs.laws.Inclusion.{binary_inside, binary_quotient, const_inside}
 use Rattle.exact.specs.Holding.{Holds}
 use Rattle.exact.specs.Smaller.{IsSmaller}

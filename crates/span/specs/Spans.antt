@@ -1,5 +1,5 @@
 -- What a `Span` stands for, and what each operation promises of it: that it holds every result of what its arguments hold
--- (over the fractions of the theory), how narrow it is, and where its exponent lies. `lower-greatest` and `upper-least` say that
+-- (over the fractions of the theory), how narrow it is, and where its exponent lies. `lower_greatest` and `upper_least` say that
 -- no span of that exponent is narrower; elsewhere the ends are open but for the width. Assumes nothing.
 use Rattle.std.specs.Prelude.{ℕ, ◌+◌, ◌*◌, ◌-◌, ◌^◌, ◌≤◌, ◌<◌, ◌≡◌, Bool, ltb}
 use Rattle.std.proofs.Common.{pow_pos, arith}

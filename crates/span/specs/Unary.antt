@@ -11,7 +11,7 @@ use Rattle.exact.proofs.laws.Pairs.{lo_in, hi_in}
 use Rattle.exact.specs.LnExp.{ln_lower_at, ln_upper_at, exp_lower_at, exp_upper_at}
 use Rattle.exact.specs.Formula.{Formula, ln, exp, bracket_at, lift, ◌>>◌, ln_b, exp_b}
 use Rattle.exact.proofs.laws.Meeting.{ends, Meets, meeting}
-use Rattle.exact.proofs.laws.Containment.{Inside}
+use Rattle.exact.specs.laws.Containment.{Inside}
 use Rattle.exact.specs.Holding.{◌∈◌}
 
 -- the n-th ends of ln p lie in K

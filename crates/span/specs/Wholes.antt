@@ -3,7 +3,7 @@ use Rattle.std.specs.Prelude.{ℕ, ◌+◌, ◌*◌, ◌-◌, ◌^◌, ◌≤◌
 use Rattle.std.proofs.Math.Nat.{mul-sub, mul-lt-mul_of_pos_left}
 use Rattle.std.proofs.Common.{mul-le-mul_left, mul-le-mul_right, le_of_mul-le-mul_right, lt_of_mul-lt-mul_right, arith, ltb-false}
 use Rattle.exact.specs.Bracket.{Bracket}
-use Rattle.exact.proofs.laws.Pairs.{◌⊆◌}
+use Rattle.exact.specs.laws.Pairs.{◌⊆◌}
 use Rattle.exact.specs.Formula.{Formula, bracket_at}
 use Rattle.exact.proofs.laws.Containment.{contains_holds, inside_wider}
 use Rattle.exact.specs.Holding.{Holds}

@@ -7,7 +7,7 @@ use Rattle.exact.specs.Fraction.{Ratio, of_ratio, ◌⊞◌, neg, ◌⊟◌, ◌
 use Rattle.exact.specs.Bracket.{Bracket}
 use Rattle.exact.specs.Formula.{Formula, bracket_at}
 use Rattle.exact.proofs.laws.Frac.{⊑_trans, smaller_right}
-use Rattle.exact.proofs.laws.Containment.{Inside}
+use Rattle.exact.specs.laws.Containment.{Inside}
 use Rattle.exact.proofs.laws.Meeting.{Meets, meeting}
 use Rattle.exact.specs.Holding.{◌∈◌}
 use Rattle.span.specs.declared.Span.{Span}

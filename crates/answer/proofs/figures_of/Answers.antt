@@ -1,5 +1,5 @@
 -- `answer::figures_of` meets its contract: all in the case's own air. Assumes nothing.
-use Rattle.guidance.specs.laws.Domain.{own_air}
+use Rattle.guidance.proofs.laws.Domain.{own_air}
 use Rattle.answer.proofs.Numbers.{figures}
 use borrow.Author.Rules.{rules}
 use Rattle.answer.proofs.figures_of.Goals as goal

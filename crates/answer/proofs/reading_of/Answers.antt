@@ -2,7 +2,7 @@
 use mathlib.Core.Path.{ap, ap₂, ◌∙◌}
 use Prim.Native.Nat.{ℕ}
 use Rattle.damage.specs.Damage.{damage}
-use Rattle.signed.specs.Reading.{back}
+use Rattle.signed.proofs.Back.{back}
 use Rattle.answer.specs.Answer.{reading}
 use Rattle.answer.proofs.reading_of.Goals as goal
 

@@ -15,7 +15,7 @@ use Rattle.guidance.specs.Clouds.{range_of, ground_factor, lean_by, lean_factor,
 use Rattle.guidance.specs.Distances.{less, metres, cubed, nearer, farther, cube02, cube24}
 use Rattle.guidance.specs.Waves.{reduced_pressure, overpressure}
 use Rattle.guidance.specs.CaseQ.{q_in}
-use Rattle.guidance.specs.laws.Known.{FirstIs, point_holds, FirstsIn, firsts_in, range_of_lem}
+use Rattle.guidance.proofs.laws.Known.{FirstIs, point_holds, FirstsIn, firsts_in, range_of_lem}
 use Rattle.refusals.specs.Order.{first_of, held}
 use Rattle.fields.specs.Bytes.{air_in, fields_of}
 use Rattle.limits.specs.Tests.{quantity_outside, heat_missing, value_tests, field_tests}

@@ -11,8 +11,8 @@ use Rattle.guidance.specs.Cases.{Fields}
 use Rattle.guidance.specs.Clouds.{range_of, ground_factor, lean_factor, aerosol_factor, energy}
 use Rattle.guidance.specs.Distances.{less, metres, nearer, farther, cube02, cube24}
 use Rattle.guidance.specs.CaseQ.{q_in, EqualToAir}
-use Rattle.guidance.specs.laws.Metres.{nearer_metres, farther_metres}
-use Rattle.guidance.specs.laws.Known as known
+use Rattle.guidance.proofs.laws.Metres.{nearer_metres, farther_metres}
+use Rattle.guidance.proofs.laws.Known as known
 use Rattle.refusals.specs.declared.Fault.TheVariants.{Substance, Heat}
 use Rattle.refusals.specs.Order.{first_of}
 use Rattle.fields.specs.Bytes.{air_in, fields_of, settings, first_bytes, frame_bytes}

@@ -1,5 +1,5 @@
 -- `blast::deflagration_of` meets its contract. Assumes nothing.
-use Rattle.guidance.specs.laws.Limits.{detonates, burns}
+use Rattle.guidance.proofs.laws.Limits.{detonates, burns}
 use Rattle.blast.proofs.deflagration_of.Goals as goal
 
 pub returns-then-k-lt2 : goal.returns-then-k-lt2

@@ -1,5 +1,5 @@
 -- `blast::impulse` meets its contract. Assumes nothing.
-use Rattle.blast.specs.Ending.{impulse_roundable, impulse_ended}
+use Rattle.blast.proofs.Ending.{impulse_roundable, impulse_ended}
 use Rattle.blast.proofs.Finals.{impulse_span}
 use Rattle.blast.proofs.impulse.Goals as goal
 

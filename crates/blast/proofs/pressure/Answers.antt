@@ -1,7 +1,7 @@
 -- `blast::pressure` meets its contract:
 -- the whole pascals around the span of ΔP, closed by its width.
 -- Assumes nothing.
-use Rattle.blast.specs.Ending.{pressure_roundable, pressure_ended}
+use Rattle.blast.proofs.Ending.{pressure_roundable, pressure_ended}
 use Rattle.blast.proofs.Finals.{pressure_span}
 use Rattle.blast.proofs.pressure.Goals as goal
 

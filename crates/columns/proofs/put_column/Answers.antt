@@ -1,5 +1,4 @@
 -- `columns::put_column` meets its contract: the bytes passed are written. Assumes nothing.
-use Prim.Native.Nat.{◌-◌}
 use native.Mathlib.Omega.{arith}
 use Rattle.columns.proofs.Filling.{column_first, column_inside, column_width, column_again, column_last}
 use Rattle.columns.proofs.put_column.Goals as goal

@@ -1,5 +1,4 @@
 -- `columns::transpose` meets its contract: the columns passed are written. Assumes nothing.
-use Prim.Native.Nat.{◌-◌}
 use native.Mathlib.Omega.{arith}
 use Rattle.columns.proofs.Filling.{columns_first, columns_room, columns_part, columns_again, columns_last}
 use Rattle.columns.proofs.transpose.Goals as goal

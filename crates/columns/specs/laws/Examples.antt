@@ -1,5 +1,5 @@
 -- Small forms worked on the definitions. Assumes nothing.
-use Rattle.std.specs.Prelude.{◌≡◌, refl, true, false, List, [], ◌∷◌, ℕ, replicate}
+use Rattle.std.specs.Prelude.{◌≡◌, refl, true, false, [], ◌∷◌, ℕ, replicate}
 use Rattle.columns.specs.Transposed.{column, columns_from, transposed}
 use Rattle.columns.specs.Stored.{stored, restored, damaged}
 

@@ -3,7 +3,7 @@ use Prim.Native.Nat.{ℕ}
 use mathlib.Core.Path.{◌∙◌, ap}
 use Rattle.damage.specs.Damage.{table, not_above, tenths_of_percent}
 use Rattle.damage.specs.laws.Readings.{from_zero, damage_from_zero}
-use Rattle.signed.specs.Reading.{back}
+use Rattle.signed.proofs.Back.{back}
 use Rattle.damage.proofs.damage_at.Goals as goal
 
 pub returns : goal.returns

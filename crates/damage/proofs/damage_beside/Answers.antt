@@ -1,7 +1,7 @@
 -- `damage::damage_beside` meets its contract: whole hundredths decide. Assumes nothing.
 use Prim.Native.Nat.{ℕ, ◌/◌}
 use mathlib.Core.Path.{◌≡◌, sym, ◌∙◌, ap}
-use Rattle.signed.specs.Reading.{back}
+use Rattle.signed.proofs.Back.{back}
 use Rattle.damage.specs.Damage.{damage}
 use Rattle.damage.specs.laws.Readings.{from_zero, same_hundredths}
 use Rattle.damage.proofs.damage_beside.Goals as goal

@@ -4,7 +4,8 @@ use native.Mathlib.Omega.{arith}
 use lib.IntN.{pos, nat_abs}
 use Prim.Native.Nat.{◌^◌, ◌<◌}
 use Rattle.damage.specs.laws.Readings.{from_zero}
-use Rattle.signed.specs.Reading.{Read, as_pos, as_neg}
+use Rattle.signed.specs.Reading.{Read}
+use Rattle.signed.proofs.Reading.{as_pos, as_neg}
 use Rattle.damage.proofs.from_zero.Goals as goal
 
 read : (c : goal.Then-probit-ge0) → Read pos c.args.probit

@@ -160,7 +160,7 @@ tenths_rise m n h (yes i) (no j) = rw (le-leb m 99 i, lt-leb n 99 (omega arith))
 tenths_rise m n h (no i) (yes j) = absurd (omega arith)
 tenths_rise m n h (no i) (no j) = rw (lt-leb m 99 (omega arith), lt-leb n 99 (omega arith)) (omega arith)
 
--- entry k, counted from 0, has the probability tenthsOfPercent (k + 1)
+-- entry k, counted from 0, has the probability tenths_of_percent (k + 1)
 pub record Greatest (p d : ℕ) : Type 0 where
   pub place : ℕ
   pub is : d ≡ tenths_of_percent place

@@ -1,5 +1,5 @@
 -- How far a double lies from n / s, in units of 1 / p, and distances compared. Assumes nothing.
-use Rattle.std.specs.Prelude.{◌≡◌, refl, ℕ, ◌+◌, ◌-◌, ◌*◌, ◌≤◌, ◌<◌, ℤ, Float}
+use Rattle.std.specs.Prelude.{◌≡◌, refl, ℕ, ◌+◌, ◌*◌, ◌≤◌, ◌<◌, ℤ, Float}
 use Rattle.std.proofs.Math.Path.{sym, ap}
 use Rattle.std.proofs.Common.{◌∙◌, true≢false, le_trans, le_of_eq, mul-le-mul_right, le_of_mul-le-mul_right, arith}
 use Rattle.std.proofs.Math.Bool.{true, false}

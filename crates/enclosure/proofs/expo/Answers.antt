@@ -7,8 +7,10 @@ use Rattle.span.specs.Enclosing.{divisor}
 use Rattle.fixed.specs.declared.Log.{Log}
 use Rattle.fixed.specs.Logs.{apart}
 use Rattle.enclosure.specs.Promises.{Exponent}
-use Rattle.signed.specs.Reading.{R, back, step}
-use Rattle.signed.specs.Magnitude.{size}
+use Rattle.signed.specs.Reading.{R}
+use Rattle.signed.proofs.Back.{back}
+use Rattle.signed.proofs.Reading.{step}
+use Rattle.signed.proofs.Magnitude.{size}
 use Rattle.enclosure.proofs.Differences.{difference}
 use Rattle.enclosure.proofs.ExpInterval.{upper_least, interval}
 use Rattle.enclosure.proofs.expo.Goals as goal

@@ -2,7 +2,7 @@
 -- the words that are handed over
 use Prim.Native.Nat.{◌+◌, ◌^◌, ◌≤◌, ◌<◌}
 use native.Mathlib.Omega.{arith}
-use Rattle.signed.specs.Reading.{back}
+use Rattle.signed.proofs.Back.{back}
 use Rattle.enclosure.proofs.LnInterval.{word_fits, unbiased_fits, logarithm}
 use Rattle.enclosure.proofs.ln.Goals as goal
 

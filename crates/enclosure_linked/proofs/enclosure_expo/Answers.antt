@@ -1,6 +1,6 @@
 -- `enclosure_linked::enclosure_expo` meets its contract: both ends are the words that came in. Assumes nothing.
 use mathlib.Core.Path.{refl}
-use Rattle.signed.specs.Reading.{back}
+use Rattle.signed.proofs.Back.{back}
 use Rattle.enclosure_linked.proofs.Decided.{holds, fails}
 use Rattle.enclosure_linked.proofs.enclosure_expo.Goals as goal
 

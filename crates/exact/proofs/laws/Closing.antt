@@ -17,7 +17,8 @@ use Rattle.exact.proofs.laws.NarrowingLnExp.{ln_narrow_of, exp_narrow_of}
 use Rattle.exact.proofs.laws.Nearness.{Upto, at_most, Lipschitz, sum_lipschitz, difference_lipschitz, smaller_lipschitz, product_lipschitz}
 use Rattle.exact.proofs.laws.Power.{half_times, remainder}
 use Rattle.exact.proofs.laws.Ratio.{to≼, ≼_refl, ≼_trans, ⊕-mono, ⊗_mono, ⊗_comm}
-use Rattle.exact.proofs.laws.Width.{half, ninth}
+use Rattle.exact.specs.laws.Width.{half}
+use Rattle.exact.proofs.laws.Width.{ninth}
 
 -- Widths that come to 1/(k + 1)
 

@@ -1,11 +1,11 @@
 -- Containment: an interval that contains the arguments' N-th brackets has an image that contains the result's, and an
 -- interval that contains one bracket of a formula meets them all. With it a program that computes outward from some N on
 -- is proved operation by operation. Assumes nothing.
+use Rattle.exact.specs.laws.Containment.{Inside}
 use Rattle.std.specs.Prelude.{ℕ, zero, suc, ◌≤◌, ◌≡◌, refl, Bool, true, false}
-use Rattle.std.proofs.Common.{arith}
 use Rattle.std.proofs.lemmas.Bool.{false≢true}
 use Rattle.std.proofs.Math.Option.{Option, none, some}
-use Rattle.exact.specs.Fraction.{Ratio, ◌≼◌, Above0, whole, ◌⊖◌, sum, Frac, ◌⊑◌, Positive, zero_f, neg, magnitude, one_f}
+use Rattle.exact.specs.Fraction.{Ratio, ◌≼◌, Above0, whole, sum, Frac, ◌⊑◌, Positive, zero_f, neg, magnitude, one_f}
 use Rattle.exact.specs.Bracket.{Bracket, over_pairs}
 use Rattle.exact.specs.Series.{exp_lower, exp_upper}
 use Rattle.exact.specs.LnExp.{ln_lower_at, ln_upper_at, exp_upper_of, one_over_of, exp_lower_at, exp_upper_at}
@@ -17,15 +17,10 @@ use Rattle.exact.proofs.laws.Exp.{exp_lower_mono, exp_upper_mono}
 use Rattle.exact.proofs.laws.Frac.{⊑_trans, neg_anti, positive_mono}
 use Rattle.exact.proofs.laws.Ln.{ln_lower_mono, ln_upper_mono}
 use Rattle.exact.proofs.laws.Meeting.{ends, Meets, brackets_meet}
-use Rattle.exact.proofs.laws.Pairs.{◌⊆◌, Monotone, pairs_isotone}
+use Rattle.exact.specs.laws.Pairs.{◌⊆◌}
+use Rattle.exact.proofs.laws.Pairs.{Monotone, pairs_isotone}
 use Rattle.exact.proofs.laws.Ratio.{above_one, ≼_trans, ⊕-upper, recip_anti, above_mono, ⊖-anti}
 use Rattle.exact.specs.Holding.{Holds}
-
--- `Inside x i`: where the interval i is there, so is the bracket x, and i contains it
-abbrev pub Inside : Option Bracket → Option Bracket → Type 0
-Inside x none = Unit {0}
-Inside none (some I) = ⊥
-Inside (some A) (some I) = A ⊆ I
 
 -- the bracket inside
 found : (x : Option Bracket) {I : Bracket} → Inside x (some I) → (A : Bracket) × (x ≡ some A) × (A ⊆ I)
@@ -44,7 +39,7 @@ contains_holds x n o I h =
       there = record { place = n; from_one = o; bracket = f.0; is = f.1 };
     }
 
--- a closed bracket is compared by the checker: `inside-true _ I refl`
+-- a closed bracket is compared by the checker: `inside_true _ I refl`
 unfoldable pub inside : Option Bracket → Bracket → Bool
 inside none I = false
 inside (some A) I = elim (dec_f I.lo A.lo) [ yes h ↦ elim (dec_f A.hi I.hi) [ yes k ↦ true | no k ↦ false ] | no h ↦ false ]

@@ -1,5 +1,5 @@
 -- The M-th lower end of ln or e^ at a signed fraction s lies below the N-th upper end at t, wherever s ≤ t and both are there:
--- `ln-below` and `exp-below`. Assumes nothing.
+-- `ln_below` and `exp_below`. Assumes nothing.
 use Rattle.std.specs.Prelude.{ℕ, suc, ◌+◌, ◌*◌, ◌-◌, ◌≤◌, ◌≡◌}
 use Rattle.std.proofs.Common.{ap, mul-le-mul_right, arith}
 use Rattle.std.proofs.Math.Option.{Option, none, some, map}

@@ -13,7 +13,7 @@ use Rattle.exact.specs.Formula.{Formula, const, sub, div, least, ln, exp, whole_
 use Rattle.exact.proofs.laws.Containment.{inside, inside_true}
 use Rattle.exact.proofs.laws.Tests.{both_true}
 use Rattle.exact.specs.laws.Decide.{dec_above0, dec_f, dec_positive, dec_positives}
-use Rattle.exact.proofs.laws.Pairs.{◌⊆◌}
+use Rattle.exact.specs.laws.Pairs.{◌⊆◌}
 
 -- p/q, for q ≥ 1
 frac : (p q : ℕ) → Frac

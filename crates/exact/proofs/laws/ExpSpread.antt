@@ -14,7 +14,7 @@ use Rattle.exact.specs.laws.Decide.{⊑-total}
 use Rattle.exact.proofs.laws.Ratio.{shift, one_times, unit_right, ≼_refl, ≼_trans, to≼, zero-≼, ⊗_mono, ⊕-upper}
 use Rattle.exact.proofs.laws.Reduction.{most_zero, upper_near}
 use Rattle.exact.proofs.laws.Spread.{absorb, exp_moves_all}
-use Rattle.exact.proofs.laws.Width.{half}
+use Rattle.exact.specs.laws.Width.{half}
 
 -- From 0 up
 

@@ -1,20 +1,13 @@
 -- Fixed point, in S-ths: the step from a program's rounded whole numbers to the fractions of the brackets. Products and
--- quotients rounded down keep a lower bound, and one more keeps an upper bound. `lower-series` is the pattern for a loop that
+-- quotients rounded down keep a lower bound, and one more keeps an upper bound. `lower_series` is the pattern for a loop that
 -- sums a series. Assumes nothing.
+use Rattle.exact.specs.laws.Fixed.{Lower, Upper}
 use Prim.Native.Nat.{ℕ, zero, suc, ◌+◌, ◌*◌, ◌/◌, ◌≤◌, ◌<◌}
 use Rattle.std.proofs.Common.{mul-le-mul, mul-le-mul_right, le_of_mul-le-mul_right, div-mul-le_self, arith}
 use Rattle.std.proofs.Math.Nat.{lt-div-mul-add}
 use Rattle.exact.specs.Fraction.{Ratio, whole, ◌⊕◌, ◌⊗◌, power, sum}
 use Rattle.exact.specs.Series.{one_over, even, odd, ln_term}
 use Rattle.exact.specs.laws.Positive.{odd_pos}
-
--- a/S ≤ x
-pub record Lower (S a : ℕ) (x : Ratio) : Type 0 where
-  pub bound : a * x.den ≤ x.num * S
-
--- x ≤ b/S
-pub record Upper (S b : ℕ) (x : Ratio) : Type 0 where
-  pub bound : x.num * S ≤ b * x.den
 
 pub lower_sum : {S a b : ℕ} {x y : Ratio} → Lower S a x → Lower S b y → Lower S (a + b) (x ⊕ y)
 unfolding ◌⊕◌

@@ -1,5 +1,5 @@
 -- What a program shows of the interval K that it computes from I and J, operation by operation, so that K contains the N-th
--- bracket of the result. With `contains-holds` at the end, K then holds the exact value. Assumes nothing.
+-- bracket of the result. With `contains_holds` at the end, K then holds the exact value. Assumes nothing.
 use Rattle.std.specs.Prelude.{ℕ, suc, ◌≡◌}
 use Rattle.std.proofs.Common.{subst₂}
 use Rattle.std.proofs.Math.Option.{Option, none, some}
@@ -7,7 +7,8 @@ use Rattle.exact.specs.Fraction.{Frac, ◌⊑◌, Positive, zero_f, ◌⊠◌, i
 use Rattle.exact.specs.Bracket.{Bracket, over_pairs, quotients}
 use Rattle.exact.specs.LnExp.{ln_lower_at, ln_upper_at, exp_lower_at, exp_upper_at}
 use Rattle.exact.specs.Formula.{Formula, const, div, ln, exp, bracket_at, lift, ◌>>◌, ln_b, exp_b, quotient_b}
-use Rattle.exact.proofs.laws.Containment.{Inside, inside_wider, then_inside, ln_isotone, exp_isotone}
+use Rattle.exact.specs.laws.Containment.{Inside}
+use Rattle.exact.proofs.laws.Containment.{inside_wider, then_inside, ln_isotone, exp_isotone}
 use Rattle.exact.specs.laws.Decide.{dec_positives, decided}
 use Rattle.exact.proofs.laws.Frac.{product_mono, positive_mono, inverse_anti, ⊑_trans}
 use Rattle.exact.proofs.laws.Meeting.{ends, Meets, meeting}

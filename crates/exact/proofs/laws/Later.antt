@@ -5,14 +5,15 @@ use Rattle.std.proofs.Common.{mul-le-mul, mul-le-mul_right, arith}
 use Rattle.exact.specs.Fraction.{Ratio, whole, Frac, ◌⊑◌, Positive, one_f, of_ratio, neg, ◌⊠◌}
 use Rattle.exact.specs.Bracket.{Bracket}
 use Rattle.exact.specs.Formula.{Formula, bracket_at, lift, ◌>>◌, quotient_b, ln_b}
-use Rattle.exact.proofs.laws.Containment.{Inside}
+use Rattle.exact.specs.laws.Containment.{Inside}
 use Rattle.exact.specs.laws.Decide.{dec_positives, decided}
 use Rattle.exact.proofs.laws.Frac.{⊑_refl, ⊑_trans, neg_anti, ⊞-mono}
 use Rattle.exact.proofs.laws.Meeting.{Meets, meeting}
 use Rattle.exact.proofs.laws.Narrowing.{All, Narrow, BoundedEnds, Divisor}
 use Rattle.exact.proofs.laws.Nearness.{Bounded, Beyond, beyond_mono}
 use Rattle.exact.proofs.laws.Nesting.{nested}
-use Rattle.exact.proofs.laws.Pairs.{◌⊆◌, lo_in, hi_in}
+use Rattle.exact.specs.laws.Pairs.{◌⊆◌}
+use Rattle.exact.proofs.laws.Pairs.{lo_in, hi_in}
 use Rattle.exact.specs.Holding.{◌∈◌}
 
 abbrev pub There : Option Bracket → Type 0

@@ -20,7 +20,8 @@ use Rattle.exact.proofs.laws.LogBelow.{steps_to, one_below}
 use Rattle.exact.proofs.laws.Octaves.{fraction_one}
 use Rattle.exact.specs.laws.Positive.{odd_pos, two_pow_pos}
 use Rattle.exact.proofs.laws.Ratio.{exchange, ≼_refl, ≼_trans, to≼, from≼, ⊕-mono, ⊕-assoc, ⊕-upper, ⊗_mono, distrib, recip_anti, power_mono, above_whole, above_one}
-use Rattle.exact.proofs.laws.Reduction.{Most, most_upper, most_mono, Least, least_one, once_more}
+use Rattle.exact.specs.laws.Reduction.{Most, Least}
+use Rattle.exact.proofs.laws.Reduction.{most_upper, most_mono, least_one, once_more}
 
 -- e^y is at least A: so is every upper bound of its sums
 pub record Reaches (y A : Ratio) : Type 0 where

@@ -21,7 +21,8 @@ use Rattle.exact.proofs.laws.Points.{signed_most}
 use Rattle.exact.proofs.laws.Power.{half_below_one, whole_bound}
 use Rattle.exact.proofs.laws.Ratio.{≼_refl, ≼_trans, to≼, ⊕-comm, ⊕-mono, ⊕-upper, ⊗_mono}
 use Rattle.exact.proofs.laws.Spread.{octaves, octaves_most, spread, sum_signed, ln_spread_signed}
-use Rattle.exact.proofs.laws.Width.{half, ninth}
+use Rattle.exact.specs.laws.Width.{half}
+use Rattle.exact.proofs.laws.Width.{ninth}
 
 -- ln t, for t within M and R t ≥ 1: t lies within M + R octaves of 1
 

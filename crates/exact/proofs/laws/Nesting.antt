@@ -8,7 +8,8 @@ use Rattle.exact.specs.Bracket.{Bracket}
 use Rattle.exact.specs.Series.{exp_lower, exp_upper}
 use Rattle.exact.specs.LnExp.{ln_lower_at, ln_upper_at, exp_upper_of, one_over_of, exp_lower_at, exp_upper_at}
 use Rattle.exact.specs.Formula.{Formula, const, add, sub, mul, div, least, ln, exp, bracket_at, ◌>>◌, quotient_b, ln_b, exp_b}
-use Rattle.exact.proofs.laws.Containment.{Inside, Isotone, AtMost, AtLeast, AtMostOf, AtLeastOf, pairs_inside, then_inside, ln_isotone, exp_isotone, one_below_lower, recip_least, recip_most, ends_inside}
+use Rattle.exact.specs.laws.Containment.{Inside}
+use Rattle.exact.proofs.laws.Containment.{Isotone, AtMost, AtLeast, AtMostOf, AtLeastOf, pairs_inside, then_inside, ln_isotone, exp_isotone, one_below_lower, recip_least, recip_most, ends_inside}
 use Rattle.exact.specs.laws.Decide.{dec_f, dec_positives, dec_above0, decided, decided₂, decided_both}
 use Rattle.exact.proofs.laws.EndsMeet.{of_ratio_mono, one_below_exp}
 use Rattle.exact.proofs.laws.Exp.{exp_lower_grows, exp_room_grows, exp_upper_falls}

@@ -1,6 +1,7 @@
 -- Operations over all pairs of ends, outward.
--- `pairs-hold` is the inclusion property and `pairs-isotone` inclusion isotony, both once for every such operation.
+-- `pairs_hold` is the inclusion property and `pairs_isotone` inclusion isotony, both once for every such operation.
 -- Assumes nothing.
+use Rattle.exact.specs.laws.Pairs.{◌⊆◌}
 use Rattle.exact.specs.Fraction.{Frac, ◌⊑◌, zero_f, ◌⊞◌, ◌⊟◌, ◌⊠◌, Positive, inverse}
 use Rattle.exact.specs.Bracket.{outward, smaller, larger, Bracket, over_pairs, quotients}
 use Rattle.exact.specs.laws.Decide.{dec_f}
@@ -11,11 +12,6 @@ use Rattle.exact.specs.Holding.{◌∈◌}
 -- x/y
 abbrev pub quotient : (x y : Frac) → Positive y → Frac
 quotient x y h = x ⊠ inverse y h
-
-infix 40 ◌⊆◌
-pub record ◌⊆◌ (A B : Bracket) : Type 0 where
-  pub above : B.lo ⊑ A.lo
-  pub below : A.hi ⊑ B.hi
 
 -- x lies between u and v, whichever is the smaller
 pub record Between (x u v : Frac) : Type 0 where

@@ -8,7 +8,7 @@ use Rattle.exact.specs.Bracket.{Bracket}
 use Rattle.exact.specs.Series.{exp_term, exp_lower, exp_tail, exp_upper}
 use Rattle.exact.specs.LnExp.{ln_lower, ln_upper, ln_lower_at, ln_upper_at, exp_lower_at, exp_upper_at}
 use Rattle.exact.specs.Formula.{Formula, const, mul, exp, bracket_at}
-use Rattle.exact.proofs.laws.Containment.{Inside}
+use Rattle.exact.specs.laws.Containment.{Inside}
 use Rattle.exact.specs.laws.Decide.{dec_f, decided}
 use Rattle.exact.specs.laws.Divisors.{one_magnitude}
 use Rattle.exact.proofs.laws.EndsMeet.{signed, of_ratio_mono, one_below_exp, recip_below_one}
@@ -17,7 +17,8 @@ use Rattle.exact.proofs.laws.Frac.{scale_mono, ⊑_refl, ⊑_trans, smaller_glb,
 use Rattle.exact.proofs.laws.Ln.{ln_lower_mono, ln_upper_mono}
 use Rattle.exact.proofs.laws.Pairs.{⊠-monotone}
 use Rattle.exact.proofs.laws.Ratio.{≼_refl, ≼_trans, to≼, from≼, ⊗_mono, recip_anti, above_mono, ⊖-anti}
-use Rattle.exact.proofs.laws.Reduction.{LowerEnd, UpperEnd, least_one, least_all, most_zero, room, lower_from, upper_if, lower_if, upper_one_over}
+use Rattle.exact.specs.laws.Reduction.{LowerEnd, UpperEnd}
+use Rattle.exact.proofs.laws.Reduction.{least_one, least_all, most_zero, room, lower_from, upper_if, lower_if, upper_one_over}
 use Rattle.exact.proofs.laws.Inclusion.{binary_inside, const_inside, exp_inside}
 
 abbrev pub point : Frac → Bracket

@@ -1,5 +1,5 @@
 -- Powers: x^(p/q) = e^((p/q) ln x), x ≥ 1, has every lower end l with l^q ≤ x^p and every upper end u with x^p ≤ u^q; and the
--- two ends of the N-th bracket are near each other (`power-near`). Assumes nothing.
+-- two ends of the N-th bracket are near each other (`power_near`). Assumes nothing.
 use Rattle.std.specs.Prelude.{ℕ, zero, suc, ◌+◌, ◌*◌, ◌^◌, ◌≤◌, ◌<◌}
 use Rattle.std.proofs.Math.Decide.{dec_le}
 use Rattle.std.proofs.Common.{arith}
@@ -14,8 +14,10 @@ use Rattle.exact.proofs.laws.LogAbove.{above_power, ln_reaches, reaches_times}
 use Rattle.exact.proofs.laws.LogBelow.{exp_ln_below}
 use Rattle.exact.proofs.laws.Octaves.{ln2_below_one}
 use Rattle.exact.proofs.laws.Ratio.{one_times, ≼_refl, ≼_trans, to≼, from≼, ⊕-mono, ⊗_mono, ⊗_comm, ⊗_assoc, distrib, power_mono, above_one}
-use Rattle.exact.proofs.laws.Reduction.{room, Most, most_upper, most_mono, most_times, least_times}
-use Rattle.exact.proofs.laws.Width.{half, ninth, ln_width}
+use Rattle.exact.specs.laws.Reduction.{Most}
+use Rattle.exact.proofs.laws.Reduction.{room, most_upper, most_mono, most_times, least_times}
+use Rattle.exact.specs.laws.Width.{half}
+use Rattle.exact.proofs.laws.Width.{ninth, ln_width}
 
 -- q (p/q L) = p L
 cleared : (a L : Ratio) → whole a.den ⊗ (a ⊗ L) ≈ whole a.num ⊗ L

@@ -1,6 +1,6 @@
--- The formula t^(p/q) = e^((p/q) ln t) of a fraction t > 0, for every N from a constant on: `power-ends` gives two fractions
+-- The formula t^(p/q) = e^((p/q) ln t) of a fraction t > 0, for every N from a constant on: `power_ends` gives two fractions
 -- around its N-th bracket, with lo^q ≤ t^p ≤ hi^q and hi (1 - 2^-k) ≤ lo (1 + 2^-k). An exact comparison of whole powers then
--- bounds the bracket, and a quotient by it (`ends-below`, `ends_above`). Assumes nothing.
+-- bounds the bracket, and a quotient by it (`ends_below`, `ends_above`). Assumes nothing.
 use Prim.Native.Nat.{ℕ, zero, suc, ◌+◌, ◌*◌, ◌^◌, ◌≤◌}
 use Rattle.std.proofs.Math.Option.{some}
 use Rattle.std.proofs.Common.{arith}
@@ -8,7 +8,8 @@ use Rattle.exact.specs.Fraction.{Ratio, ◌≼◌, ◌≈◌, Above0, whole, ◌
 use Rattle.exact.specs.Series.{exp_lower, exp_upper, one_over, exponent}
 use Rattle.exact.specs.LnExp.{ln_lower, ln_upper, ln_lower_at, ln_upper_at, exp_lower_at, exp_upper_at}
 use Rattle.exact.specs.Formula.{Formula, const, ln, bracket_at, power_of}
-use Rattle.exact.proofs.laws.Containment.{Inside, inside_wider, ln_lower_end, ln_upper_end}
+use Rattle.exact.specs.laws.Containment.{Inside}
+use Rattle.exact.proofs.laws.Containment.{inside_wider, ln_lower_end, ln_upper_end}
 use Rattle.exact.specs.laws.Decide.{dec_f}
 use Rattle.exact.specs.laws.Divisors.{magnitude_above, one_magnitude, one_recip}
 use Rattle.exact.proofs.laws.EndsMeet.{of_ratio_mono, one_below_exp}
@@ -20,10 +21,11 @@ use Rattle.exact.proofs.laws.LogAbove.{above_power}
 use Rattle.exact.proofs.laws.Points.{point_inside, pair, scale_inside, signed_above, signed_product, product_signed, negated_product, product_negated, lower_at, upper_at, lower_at_negative, upper_at_negative, ln_low_above, ln_high_above, ln_low_below, ln_high_below, exp_of}
 use Rattle.exact.proofs.laws.Power.{half_falls, power_lower, power_upper, power_there, power_near, power_cancel, product_power, exponent_bound}
 use Rattle.exact.proofs.laws.Ratio.{one_times, ≼_refl, ≼_trans, to≼, from≼, ⊕-upper, ⊗_mono, ⊗_assoc, recip_anti, power_mono, above_one}
-use Rattle.exact.proofs.laws.Reduction.{least_one, least_all, LowerEnd, UpperEnd}
+use Rattle.exact.specs.laws.Reduction.{LowerEnd, UpperEnd}
+use Rattle.exact.proofs.laws.Reduction.{least_one, least_all}
 use Rattle.exact.proofs.laws.Spread.{recip_above}
 use Rattle.exact.proofs.laws.Inclusion.{ln_inside}
-use Rattle.exact.proofs.laws.Width.{half}
+use Rattle.exact.specs.laws.Width.{half}
 
 -- The ends of e^ and ln that make up an end of t^(p/q)
 

@@ -1,12 +1,12 @@
 -- Quotients r/t^(p/q): an exact comparison of r^q with c^q t^p bounds the N-th bracket of the quotient, for every N from a
--- constant on. `cube-root-quotient` is the case of the reduced distance r/(E/P0)^(1/3). Assumes nothing.
+-- constant on. `cube_root_quotient` is the case of the reduced distance r/(E/P0)^(1/3). Assumes nothing.
 use Rattle.std.specs.Prelude.{ℕ, ◌+◌, ◌^◌, ◌≤◌}
 use Rattle.std.proofs.Math.Option.{some}
 use Rattle.std.proofs.Common.{arith}
-use Rattle.exact.specs.Fraction.{Ratio, ◌≼◌, ◌≈◌, Above0, whole, ◌⊗◌, ◌⊖◌, recip, power, Frac, ◌⊑◌, of_ratio, magnitude}
+use Rattle.exact.specs.Fraction.{Ratio, ◌≼◌, ◌≈◌, Above0, whole, ◌⊗◌, ◌⊖◌, recip, power, Frac, of_ratio, magnitude}
 use Rattle.exact.specs.Series.{one_over, third}
 use Rattle.exact.specs.Formula.{const, div, bracket_at, power_of}
-use Rattle.exact.proofs.laws.Containment.{Inside}
+use Rattle.exact.specs.laws.Containment.{Inside}
 use Rattle.exact.proofs.laws.EndsMeet.{of_ratio_mono}
 use Rattle.exact.proofs.laws.Equal.{≈-refl, ⊗_cancel}
 use Rattle.exact.proofs.laws.ExpSpread.{slack}
@@ -16,7 +16,7 @@ use Rattle.exact.proofs.laws.Power.{power_cancel}
 use Rattle.exact.proofs.laws.PowerEnds.{PowerEnds, power_ends, slack_above, less_above, ends_below, ends_above}
 use Rattle.exact.proofs.laws.Ratio.{shift, ≼_refl, ≼_trans, to≼, from≼, ⊗_mono, ⊗_comm, above_mono}
 use Rattle.exact.proofs.laws.Inclusion.{div_inside}
-use Rattle.exact.proofs.laws.Width.{half}
+use Rattle.exact.specs.laws.Width.{half}
 
 -- A quotient r/t^(p/q)
 

@@ -1,7 +1,8 @@
 -- What a program that reduces the range of e^ needs: bounds of e^a and e^b multiply to bounds of e^(a+b), for every N from
 -- some T on, and the remainder of the N-th bracket is 2^-k beside it, k terms past twice the argument.
--- `lower-from`, `upper-from`, `lower-from-negative` and `upper-from-negative` give the ends that `exp-inside` asks for.
+-- `lower_from`, `upper_from`, `lower_from_negative` and `upper_from_negative` give the ends that `exp_inside` asks for.
 -- Assumes nothing.
+use Rattle.exact.specs.laws.Reduction.{Most, Least, LowerEnd, UpperEnd}
 use Rattle.std.specs.Prelude.{ℕ, zero, suc, ◌+◌, ◌*◌, ◌≤◌, ◌≡◌, refl}
 use Rattle.std.proofs.Common.{subst, mul-le-mul_right, arith}
 use Rattle.std.proofs.Math.Option.{Option, some}
@@ -15,15 +16,8 @@ use Rattle.exact.proofs.laws.EndsMeet.{signed, of_ratio_mono, first_term, one_be
 use Rattle.exact.proofs.laws.Exp.{exp_lower_grows, exp_lower_upper, exp_lower_mono}
 use Rattle.exact.proofs.laws.Ratio.{nothing_times, above_one, ≼_refl, ≼_trans, to≼, from≼, ⊕-mono, ⊗_mono}
 use Rattle.exact.proofs.laws.Sums.{after, after_is}
-use Rattle.exact.proofs.laws.Width.{half, exp_width}
-
--- e^y is at most U: so is every sum
-pub record Most (y U : Ratio) : Type 0 where
-  pub all : (n : ℕ) → exp_lower y n ≼ U
-
--- e^y is at least L: so is the sum of t terms, and of more
-pub record Least (t : ℕ) (y L : Ratio) : Type 0 where
-  pub begin : L ≼ exp_lower y t
+use Rattle.exact.specs.laws.Width.{half}
+use Rattle.exact.proofs.laws.Width.{exp_width}
 
 -- Upper bounds
 
@@ -129,16 +123,6 @@ pub upper_most : {y U : Ratio} (c k n : ℕ) → Most y U → y ≼ whole c → 
 upper_most {y} c k n m b l h = ≼_trans (upper_near y c k n b l h) (⊗_mono (m.all n) (≼_refl _))
 
 -- The ends of the N-th bracket at a signed fraction, with a bound
-
-pub record LowerEnd (o : Option Frac) (L : Ratio) : Type 0 where
-  pub end : Frac
-  pub is : o ≡ some end
-  pub bound : of_ratio L ⊑ end
-
-pub record UpperEnd (o : Option Frac) (U : Ratio) : Type 0 where
-  pub end : Frac
-  pub is : o ≡ some end
-  pub bound : end ⊑ of_ratio U
 
 below_recip : (x K : Ratio) (p : Above0 x) → K ⊗ x ≼ whole 1 → K ≼ recip x p
 unfolding whole recip ◌⊗◌

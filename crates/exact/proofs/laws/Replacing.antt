@@ -12,7 +12,8 @@ use Rattle.exact.proofs.laws.Pairs.{Monotone, ⊞-monotone, ⊠-monotone}
 use Rattle.exact.proofs.laws.Meeting.{meeting}
 use Rattle.exact.proofs.laws.Inclusion.{div_inside}
 use Rattle.exact.proofs.laws.Points.{point, point_inside, scale_inside, signed_above, signed_product, product_signed, positive_of, inverse_least, inverse_most}
-use Rattle.exact.proofs.laws.Containment.{Inside, pairs_inside, then_inside, ln_isotone, exp_isotone}
+use Rattle.exact.specs.laws.Containment.{Inside}
+use Rattle.exact.proofs.laws.Containment.{pairs_inside, then_inside, ln_isotone, exp_isotone}
 use Rattle.exact.proofs.laws.Nesting.{quotients_inside}
 
 -- the n-th bracket of x lies in that of y

@@ -9,7 +9,7 @@ use Rattle.exact.specs.Smaller.{WhollyBelow, IsSmaller}
 use Rattle.exact.proofs.laws.Frac.{⊑_trans}
 use Rattle.exact.specs.laws.Decide.{⊑-total}
 use Rattle.exact.proofs.laws.Meeting.{brackets_meet}
-use Rattle.exact.proofs.laws.Containment.{Inside}
+use Rattle.exact.specs.laws.Containment.{Inside}
 
 -- both brackets are there, and the first lies wholly below the second
 abbrev pub Apart : Option Bracket → Option Bracket → Type 0

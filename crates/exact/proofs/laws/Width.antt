@@ -1,5 +1,6 @@
 -- How narrow the brackets are at a point: what the upper end adds is small beside 9^N for ln, and beside 2^k of the lower end
 -- for e^, k terms past twice the argument. Assumes nothing.
+use Rattle.exact.specs.laws.Width.{half}
 use Rattle.std.specs.Prelude.{ℕ, zero, suc, ◌*◌, ◌≤◌, ◌<◌, ◌≡◌, refl}
 use Rattle.std.proofs.Common.{ap, mul-le-mul_right, arith}
 use Rattle.exact.specs.Fraction.{Ratio, ◌≼◌, ◌≈◌, Above0, whole, ◌⊕◌, ◌⊗◌, ◌⊖◌, recip, power, sum}
@@ -14,9 +15,6 @@ use Rattle.exact.proofs.laws.Ratio.{unit_right, ≼_refl, ≼_trans, to≼, ⊕-
 use Rattle.exact.proofs.laws.Sums.{after, sum_grows}
 
 -- e^
-
-unfoldable pub half : Ratio
-half = one_over 2 (omega arith)
 
 -- y/(n + 1) ≤ 1/2
 at_most_half : (y : Ratio) (c n : ℕ) → y ≼ whole c → 2 * c ≤ suc n → (z : 0 < suc n) → y ⊗ record { num = 1; den = suc n; positive = z } ≼ half

@@ -1,5 +1,5 @@
 -- `frame::is_beyond` meets its contract: the exact test of the guidance, in the case's own air. Assumes nothing.
-use Rattle.guidance.specs.laws.Domain.{own_air}
+use Rattle.guidance.proofs.laws.Domain.{own_air}
 use Rattle.frame.proofs.is_beyond.Goals as goal
 
 pub is_beyond-requires : goal.is_beyond-requires

@@ -11,7 +11,7 @@ use Rattle.hexadecimals.specs.Digits.{all_digits, bytes_of}
 use Rattle.refusals.specs.declared.Fault.{Fault}
 use Rattle.refusals.specs.declared.Fault.TheVariants.{Length, Digit}
 use Rattle.refusals.specs.Order.{first_of}
-use Rattle.refusals.specs.laws.Order.{none_first}
+use Rattle.refusals.proofs.laws.Order.{none_first}
 use Rattle.fields.specs.Bytes.{fields_of, frame_bytes}
 use Rattle.fields.specs.laws.Back as back
 use Rattle.limits.specs.declared.Checked.TheVariants.{Sound, Unsound}

@@ -4,7 +4,7 @@ use Rattle.std.proofs.Common.{ap, sym, ◌∙◌, arith, ne_eqb, ltb-false, le-l
 use Rattle.std.proofs.Math.Option.{Option, none, some}
 use Rattle.guidance.specs.declared.Case.{Case}
 use Rattle.guidance.specs.Cases as cases
-use Rattle.guidance.specs.laws.Domain.{accepted}
+use Rattle.guidance.proofs.laws.Domain.{accepted}
 use Rattle.guidance.specs.CloudWords.{Heated}
 use Rattle.guidance.specs.AirPressure.{air_of}
 use Rattle.refusals.specs.declared.Fault.{Fault}
@@ -23,7 +23,7 @@ use Rattle.limits.specs.laws.Fields.{heated_passes}
 use Rattle.frame.specs.Tests.{either, frame_tests, line_tests}
 use Rattle.frame.specs.Verdicts.{answer_length, last_tests, verdict_by, frame_verdict, line_verdict}
 use Rattle.frame.specs.Checks.{frame_checked, line_checked, placed, judged}
-use Rattle.refusals.specs.laws.Order.{or_else, first_held, same_held, found_held, neither_found, passed, applies, absent}
+use Rattle.refusals.proofs.laws.Order.{or_else, first_held, same_held, found_held, neither_found, passed, applies, absent}
 use Rattle.frame.specs.laws.Checks as checks
 
 -- tests 7 and 8 decide where none of 1 to 6 applies

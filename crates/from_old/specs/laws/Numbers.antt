@@ -1,8 +1,8 @@
 -- Which numbers the way in does not give. Assumes nothing.
 use Rattle.std.specs.Prelude.{ℕ, ◌≡◌, refl, false, ◌∷◌, eqb}
 use Rattle.std.proofs.lemmas.Bool.{eqb-false}
-use Rattle.refusals.specs.laws.Order.{neither}
-use Rattle.refusals.specs.laws.Numbers.{numbers, among}
+use Rattle.refusals.proofs.laws.Order.{neither}
+use Rattle.refusals.proofs.laws.Numbers.{numbers, among}
 use Rattle.writable.specs.laws.Numbers as writable
 use Rattle.from_old.specs.declared.Refusal.{Refusal}
 use Rattle.from_old.specs.declared.Refusal.TheVariants.{Unwritten, Tag, Double}

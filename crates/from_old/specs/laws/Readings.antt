@@ -5,7 +5,7 @@ use Rattle.std.proofs.Common.{arith, eq-eqb, ne_eqb, eqb-true}
 use Rattle.std.proofs.lemmas.Bool.{not-false}
 use Rattle.refusals.specs.declared.Fault.TheVariants.{Length, Digit}
 use Rattle.refusals.specs.Order.{first_of}
-use Rattle.refusals.specs.laws.Order.{passed}
+use Rattle.refusals.proofs.laws.Order.{passed}
 use Rattle.hexadecimals.specs.Digits.{all_digits, bytes_of}
 use Rattle.writable.specs.declared.Refusal.TheVariants.{Faulty}
 use Rattle.old_case.specs.declared.OldCase.{OldCase}

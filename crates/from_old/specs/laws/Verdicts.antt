@@ -5,7 +5,7 @@ use Rattle.std.proofs.Common.{◌∙◌, arith}
 use Rattle.std.proofs.Math.Option.{Option, none, some}
 use Rattle.guidance.specs.declared.Case.{Case}
 use Rattle.refusals.specs.Order.{Test, ◌when◌, first_of, held}
-use Rattle.refusals.specs.laws.Order.{or_else, first_append}
+use Rattle.refusals.proofs.laws.Order.{or_else, first_append}
 use Rattle.hexadecimals.specs.Digits.{bytes_of}
 use Rattle.fields.specs.Bytes.{frame_bytes}
 use Rattle.fields.specs.laws.Back.{standard_length}

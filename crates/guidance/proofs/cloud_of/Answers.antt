@@ -3,7 +3,7 @@ use mathlib.Core.Path.{◌∙◌, ap}
 use mathlib.Core.Bool.{◌&&◌}
 use lib.Dec.{eqb, ltb}
 use Rattle.guidance.specs.CloudWords.{parts_of}
-use Rattle.guidance.specs.laws.Energies.{cloud_is}
+use Rattle.guidance.proofs.laws.Energies.{cloud_is}
 use Rattle.guidance.proofs.cloud_of.Goals as goal
 
 pub returns : goal.returns

@@ -1,6 +1,6 @@
 -- `guidance::heat_of` meets its contract. Assumes nothing.
 use native.Mathlib.Omega.{arith}
-use Rattle.guidance.specs.laws.Limits.{beta_most, heat_given, heat_table}
+use Rattle.guidance.proofs.laws.Limits.{beta_most, heat_given, heat_table}
 use Rattle.guidance.proofs.heat_of.Goals as goal
 
 pub overflow_mul-result : goal.overflow_mul-result

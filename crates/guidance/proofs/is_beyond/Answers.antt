@@ -5,7 +5,7 @@ use native.Mathlib.Omega.{arith}
 use lib.Dec.{ltb}
 use Rattle.exact.specs.Fraction.{whole}
 use Rattle.guidance.specs.Distances.{cube24}
-use Rattle.guidance.specs.laws.Comparisons.{farther_value, farther_words}
+use Rattle.guidance.proofs.laws.Comparisons.{farther_value, farther_words}
 use Rattle.guidance.proofs.is_beyond.Goals as goal
 
 pub returns : goal.returns

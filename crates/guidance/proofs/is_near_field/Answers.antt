@@ -4,8 +4,8 @@ use native.Mathlib.Omega.{arith}
 use lib.Dec.{eqb, lit≤}
 use Rattle.guidance.specs.Distances.{nearer, cube02, cube025}
 use Rattle.guidance.specs.CloudWords.{millionths}
-use Rattle.guidance.specs.laws.Limits.{cond_most}
-use Rattle.guidance.specs.laws.Comparisons.{near_field_is}
+use Rattle.guidance.proofs.laws.Limits.{cond_most}
+use Rattle.guidance.proofs.laws.Comparisons.{near_field_is}
 use Rattle.guidance.proofs.is_near_field.Goals as goal
 
 pub is_nearer-requires : goal.is_nearer-requires

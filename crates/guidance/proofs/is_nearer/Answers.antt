@@ -2,7 +2,7 @@
 use Prim.Native.Nat.{◌*◌}
 use mathlib.Core.Path.{sym, ◌∙◌}
 use lib.Dec.{ltb}
-use Rattle.guidance.specs.laws.Comparisons.{nearer_words}
+use Rattle.guidance.proofs.laws.Comparisons.{nearer_words}
 use Rattle.guidance.proofs.is_nearer.Goals as goal
 
 pub returns : goal.returns

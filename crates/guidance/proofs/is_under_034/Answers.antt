@@ -2,7 +2,7 @@
 use mathlib.Core.Path.{◌∙◌}
 use native.Mathlib.Omega.{arith}
 use Rattle.guidance.specs.Distances.{cube034}
-use Rattle.guidance.specs.laws.Comparisons.{nearer_value}
+use Rattle.guidance.proofs.laws.Comparisons.{nearer_value}
 use Rattle.guidance.proofs.is_under_034.Goals as goal
 
 pub returns : goal.returns

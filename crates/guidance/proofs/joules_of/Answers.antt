@@ -2,7 +2,7 @@
 use mathlib.Core.Path.{refl}
 use native.Mathlib.Omega.{arith}
 use Rattle.guidance.specs.CloudWords.{joules_of}
-use Rattle.guidance.specs.laws.Limits.{released_most, placed_most, joules_most}
+use Rattle.guidance.proofs.laws.Limits.{released_most, placed_most, joules_most}
 use Rattle.guidance.proofs.joules_of.Goals as goal
 
 pub overflow_mul-raised : goal.overflow_mul-raised

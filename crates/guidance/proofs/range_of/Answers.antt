@@ -3,7 +3,7 @@ use mathlib.Core.Path.{ap, ◌∙◌}
 use borrow.Author.Rules.{rules}
 use Rattle.guidance.specs.Ranges.{range_at}
 use Rattle.guidance.specs.Clouds.{range_of}
-use Rattle.guidance.specs.laws.Limits.{class_least, class_most}
+use Rattle.guidance.proofs.laws.Limits.{class_least, class_most}
 use Rattle.guidance.proofs.range_of.Goals as goal
 
 pub range_at-requires : goal.range_at-requires

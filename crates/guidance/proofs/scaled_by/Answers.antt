@@ -5,7 +5,7 @@ use native.Mathlib.Nat.{mul-le-mul}
 use native.Mathlib.Omega.{arith}
 use lib.Dec.{lit≤}
 use Rattle.guidance.specs.CloudWords.{scaled_by}
-use Rattle.guidance.specs.laws.Limits.{cond_most}
+use Rattle.guidance.proofs.laws.Limits.{cond_most}
 use Rattle.guidance.proofs.scaled_by.Goals as goal
 
 pub overflow_mul-result : goal.overflow_mul-result

@@ -5,7 +5,7 @@ use native.Mathlib.Nat.{mul-le-mul}
 use native.Mathlib.Omega.{arith}
 use lib.Dec.{lit≤}
 use Rattle.guidance.specs.CloudWords.{weight_of}
-use Rattle.guidance.specs.laws.Limits.{cond_most}
+use Rattle.guidance.proofs.laws.Limits.{cond_most}
 use Rattle.guidance.proofs.Products.{air_parts_most}
 use Rattle.guidance.proofs.weight_of.Goals as goal
 

@@ -1,5 +1,4 @@
 -- `hexadecimals::digits` meets its contract: each turn works one character. Assumes nothing.
-use Prim.Native.Nat.{◌-◌}
 use native.Mathlib.Omega.{arith}
 use borrow.Author.Rules.{rules}
 use Rattle.hexadecimals.specs.laws.Worth.{none_worked, next_worked, all_worked}

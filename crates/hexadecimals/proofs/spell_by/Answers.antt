@@ -1,5 +1,5 @@
 -- `hexadecimals::spell_by` meets its contract: the digits are worked first, then two of them make a byte. Assumes nothing.
-use Prim.Native.Nat.{◌+◌, ◌*◌, ◌-◌}
+use Prim.Native.Nat.{◌+◌, ◌*◌}
 use borrow.Author.Rules.{rules}
 use native.Mathlib.Omega.{arith}
 use Rattle.hexadecimals.specs.laws.Worth.{not-all, digit_most}

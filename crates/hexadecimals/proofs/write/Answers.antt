@@ -1,5 +1,4 @@
 -- `hexadecimals::write` meets its contract: the digits of the first i bytes are written. Assumes nothing.
-use Prim.Native.Nat.{◌-◌}
 use native.Mathlib.Omega.{arith}
 use lib.ListN.{length-set}
 use Rattle.hexadecimals.specs.laws.Writing.{begin, turn, ended}

@@ -7,7 +7,8 @@ use native.Mathlib.Omega.{arith}
 use lib.IntN.{ℤ, pos, negsuc, sub_ℕ, ◌+ℤ◌}
 use borrow.Author.Tests.{le-ltb}
 use Rattle.layout.specs.Bytes.{twos}
-use Rattle.signed.specs.Reading.{R, step, Read, as_pos, as_neg}
+use Rattle.signed.specs.Reading.{R, Read}
+use Rattle.signed.proofs.Reading.{step, as_pos, as_neg}
 use Rattle.layout.proofs.bits.Goals as goal
 
 sub-least : (a b : ℕ) → b ≤ a → sub_ℕ a b ≡ pos (a - b)

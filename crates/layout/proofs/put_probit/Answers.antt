@@ -3,7 +3,7 @@ use mathlib.Core.Path.{◌≡◌, ap, ◌∙◌}
 use native.Mathlib.Omega.{arith}
 use Rattle.layout.specs.Bytes.{twos, words, signeds}
 use Rattle.layout.specs.Places.{probit_of}
-use Rattle.signed.specs.Reading.{back}
+use Rattle.signed.proofs.Back.{back}
 use Rattle.layout.proofs.put_probit.Goals as goal
 
 pub returns : goal.returns

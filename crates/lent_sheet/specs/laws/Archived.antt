@@ -1,6 +1,6 @@
 -- From zero bytes, after any sequence of calls, the cases of the plain list are stored by column, and turned back they are its cases (request 12). Assumes nothing.
 use Rattle.std.specs.Prelude.{ℕ, ◌*◌, ◌≤◌, ◌≡◌, List, [], ◌++◌, length, replicate, get_or, take, drop}
-use Rattle.std.proofs.Common.{sym, ◌∙◌, arith}
+use Rattle.std.proofs.Common.{◌∙◌}
 use Rattle.std.proofs.Math.Path.{ap}
 use Rattle.std.proofs.Math.Option.{Option, none, some}
 use Rattle.std.proofs.lemmas.List.Edits.{sets}
@@ -8,7 +8,7 @@ use borrow.Author.Tests.{le-ltb}
 use Rattle.refusals.specs.Order.{first_of}
 use Rattle.fields.specs.Bytes.{fields_of}
 use Rattle.places.specs.declared.Held.{Held}
-use Rattle.places.specs.Holes.{closed, Plain, Each}
+use Rattle.places.specs.Holes.{closed, Each}
 use Rattle.places.specs.laws.Kept.{each_closed, each_at}
 use Rattle.columns.specs.declared.Restoring.{Restoring}
 use Rattle.columns.specs.declared.Restoring.TheVariants.{Written}

@@ -6,7 +6,7 @@ use Rattle.std.proofs.Math.Pow.{are_bytes}
 use Rattle.std.proofs.lemmas.Bool.{eqb-false}
 use Rattle.guidance.specs.AirPressure.{standard}
 use Rattle.refusals.specs.Order.{◌when◌, first_of}
-use Rattle.refusals.specs.laws.Order.{first_held, neither_found}
+use Rattle.refusals.proofs.laws.Order.{first_held, neither_found}
 use Rattle.fields.specs.Bytes.{air_in, fields_of, frame_bytes}
 use Rattle.fields.specs.laws.Back.{air_of_fields, frame_again, longer_again, shorter_again}
 use Rattle.frame.specs.Tests.{frame_tests, beyond}

@@ -3,7 +3,7 @@ use Rattle.std.specs.Prelude.{ℕ, ◌≤◌, ◌≡◌, refl, Bool, true, false
 use Rattle.std.proofs.Math.Option.{Option, none, some}
 use Rattle.std.proofs.Common.{arith, le-ltb}
 use Rattle.refusals.specs.Order.{◌when◌, first_of}
-use Rattle.refusals.specs.laws.Order.{or_else, first_held, first_append}
+use Rattle.refusals.proofs.laws.Order.{or_else, first_held, first_append}
 use Rattle.fields.specs.Bytes.{fields_of, frame_bytes}
 use Rattle.fields.specs.laws.Back.{frame_most}
 use Rattle.frame.specs.Tests.{frame_tests}

@@ -6,7 +6,7 @@ use mathlib.Core.List.{List, [], ◌∷◌, ◌++◌}
 use Rattle.std.proofs.Math.Option.{Option, none, some, none-ne-some}
 use Rattle.std.proofs.Math.Seq.{length-sets}
 use Rattle.refusals.specs.Order.{first_of}
-use Rattle.refusals.specs.laws.Numbers.{no_fault}
+use Rattle.refusals.proofs.laws.Numbers.{no_fault}
 use Rattle.fields.specs.Bytes.{fields_of}
 use Rattle.places.specs.declared.Held.{Held}
 use Rattle.places.specs.Holes.{at, Each}

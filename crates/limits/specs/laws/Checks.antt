@@ -7,7 +7,7 @@ use Rattle.guidance.specs.CloudWords.{Heated}
 use Rattle.refusals.specs.declared.Fault.{Fault}
 use Rattle.refusals.specs.declared.Fault.TheVariants.{Quantity, Heat}
 use Rattle.refusals.specs.Order.{◌when◌, first_of}
-use Rattle.refusals.specs.laws.Order.{or_else, neither_found, first_append, none_first, passed}
+use Rattle.refusals.proofs.laws.Order.{or_else, neither_found, first_append, none_first, passed}
 use Rattle.limits.specs.declared.Checked.TheVariants.{Sound, Unsound}
 use Rattle.limits.specs.Tests.{heat_missing, value_tests, heat_tests, field_tests}
 use Rattle.limits.specs.Checks.{checked_by, values_checked, heat_checked, case_checked}

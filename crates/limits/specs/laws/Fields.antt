@@ -8,7 +8,7 @@ use Rattle.guidance.specs.Substances.{beta_of, heat_of}
 use Rattle.guidance.specs.Cases.{Fields}
 use Rattle.guidance.specs.CloudWords.{Heated}
 use Rattle.refusals.specs.Order.{first_of}
-use Rattle.refusals.specs.laws.Order.{neither, none_of, none_applies, Passed, none_found}
+use Rattle.refusals.proofs.laws.Order.{neither, none_of, none_applies, Passed, none_found}
 use Rattle.limits.specs.laws.Limits.{inside, not_outside}
 use Rattle.limits.specs.Tests.{outside, quantity_outside, heat_missing, value_tests, field_tests}
 

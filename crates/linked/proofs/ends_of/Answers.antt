@@ -1,6 +1,6 @@
 -- `linked::ends_of` meets its contract: in the case's own air. Assumes nothing.
-use Rattle.guidance.specs.laws.Domain.{own_air}
-use Rattle.blast.specs.Ending.{wave_ends}
+use Rattle.guidance.proofs.laws.Domain.{own_air}
+use Rattle.blast.proofs.Ending.{wave_ends}
 use Rattle.linked.proofs.ends_of.Goals as goal
 
 pub pressure-requires : goal.pressure-requires

@@ -12,7 +12,7 @@ use Rattle.byte_numbers.specs.laws.Storing.{sets_all}
 use Rattle.byte_numbers.specs.laws.Back.{byte_at, one_back, eight_back, joined, one_read, eight_read, eight_at_lt, as_listed, append_bytes, one_bytes, eight_bytes}
 use Rattle.fields.specs.Bytes.{settings}
 use Rattle.fields.specs.laws.Back.{settings_read, settings_bytes}
-use Rattle.refusals.specs.laws.Order.{none_of}
+use Rattle.refusals.proofs.laws.Order.{none_of}
 use Rattle.doubles.specs.Doubles.{unusable}
 use Rattle.doubles.specs.laws.Values.{no_nan, usable_finite}
 use Rattle.old_case.specs.declared.OldField.{OldField}

@@ -3,7 +3,7 @@ use Rattle.std.specs.Prelude.{ℕ, ◌*◌, ◌≤◌, ◌<◌, ◌≡◌, false
 use Rattle.std.proofs.Common.{arith, lit<, lit≤}
 use Rattle.guidance.specs.declared.Case.{Case}
 use Rattle.guidance.specs.Cases.{Fields}
-use Rattle.refusals.specs.laws.Order.{none_applies}
+use Rattle.refusals.proofs.laws.Order.{none_applies}
 use Rattle.doubles.specs.RoundTrip.{Fraction}
 use Rattle.doubles.specs.laws.Trip.{back_usable}
 use Rattle.old_case.specs.Cases.{unusable_in, old_case_of}

@@ -1,6 +1,6 @@
 -- An old case that passes test 16 does so in each field. Assumes nothing.
 use Rattle.std.specs.Prelude.{◌≡◌, false}
-use Rattle.refusals.specs.laws.Order.{none_of}
+use Rattle.refusals.proofs.laws.Order.{none_of}
 use Rattle.doubles.specs.Doubles.{unusable}
 use Rattle.old_case.specs.declared.OldCase.{OldCase}
 use Rattle.old_case.specs.Cases.{unusable_in}

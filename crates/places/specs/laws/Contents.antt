@@ -1,7 +1,7 @@
 -- What a place holds, read off the list of the places. Assumes nothing.
 use Prim.Native.Nat.{ℕ, zero, suc, ◌-◌, ◌≤◌, ◌<◌}
 use Rattle.std.proofs.Math.Path.{◌≡◌, sym, ap}
-use Rattle.std.specs.Prelude.{refl, true, false, List, [], ◌∷◌, map, length, get_or, set}
+use Rattle.std.specs.Prelude.{refl, true, List, [], ◌∷◌, map, length, get_or, set}
 use Rattle.std.proofs.Common.{◌∙◌, not-suc-le-zero}
 use Rattle.std.proofs.lemmas.Bool.{false≢true}
 use Rattle.std.proofs.Math.Option.{Option, none, some, none-ne-some}

@@ -1,5 +1,5 @@
 -- Laws of a list without the holes at its end. Assumes nothing.
-use Prim.Native.Nat.{ℕ, zero, suc, ◌+◌, ◌≤◌, ◌<◌}
+use Prim.Native.Nat.{ℕ, zero, suc, ◌≤◌, ◌<◌}
 use Rattle.std.proofs.Math.Path.{◌≡◌, refl, sym, ap}
 use Rattle.std.proofs.Common.{◌∙◌, not-suc-le-zero}
 use mathlib.Core.List.{List, [], ◌∷◌, ◌++◌, map}

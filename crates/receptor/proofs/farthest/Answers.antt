@@ -1,9 +1,9 @@
 -- `receptor::farthest` meets its contract: bisection between a distance that is accepted and one from which on none is. Assumes nothing.
-use Prim.Native.Nat.{◌-◌}
 use mathlib.Core.Path.{sym, ◌∙◌, ap}
 use native.Mathlib.Omega.{arith}
 use Rattle.guidance.specs.Distances.{farther, cube24}
-use Rattle.bisection.specs.Bisection.{inside, raised, lowered, closed}
+use Rattle.bisection.proofs.Middle.{inside}
+use Rattle.bisection.proofs.Bisection.{raised, lowered, closed}
 use Rattle.receptor.specs.laws.Moved.{never_beyond, beyond_farther, placed_moved}
 use Rattle.receptor.specs.laws.Reach.{Within, Beyond, last_is}
 use Rattle.receptor.proofs.farthest.Goals as goal

@@ -9,8 +9,8 @@ use Rattle.guidance.specs.Clouds.{range_of, ground_factor, lean_factor, aerosol_
 use Rattle.guidance.specs.Distances.{metres, cubed, farther, cube24}
 use Rattle.guidance.specs.Cases.{Air, Fields}
 use Rattle.guidance.specs.CloudWords.{Heated, CloudOf, Placed, joules_of, parts_of}
-use Rattle.guidance.specs.laws.Domain.{least_energy, energy_least, not_farther}
-use Rattle.guidance.specs.laws.Order.{not-less}
+use Rattle.guidance.proofs.laws.Domain.{least_energy, energy_least, not_farther}
+use Rattle.guidance.proofs.laws.Order.{not-less}
 use Rattle.receptor.specs.Receptor.{moved}
 
 -- a distance that a frame may have

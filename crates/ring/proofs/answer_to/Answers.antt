@@ -1,6 +1,6 @@
 -- `ring::answer_to` meets its contract: what tests 1 to 6 found stands, else the ring in the case's own air. Assumes nothing.
 use mathlib.Core.Path.{refl}
-use Rattle.guidance.specs.laws.Domain.{own_air}
+use Rattle.guidance.proofs.laws.Domain.{own_air}
 use Rattle.ring.proofs.answer_to.Goals as goal
 
 pub air_of-requires : goal.air_of-requires

@@ -1,7 +1,8 @@
 -- `ring::edge` meets its contract: bisection between a distance where the end reaches the threshold and one where it does not. Assumes nothing.
 use Prim.Native.Nat.{◌-◌}
 use native.Mathlib.Omega.{arith}
-use Rattle.bisection.specs.Bisection.{inside, raised, lowered, closed}
+use Rattle.bisection.proofs.Middle.{inside}
+use Rattle.bisection.proofs.Bisection.{raised, lowered, closed}
 use Rattle.ring.specs.Searching.{Reaches, Below}
 use Rattle.ring.specs.laws.Standing.{standing_nearer}
 use Rattle.ring.specs.laws.Sides.{reached_at, below_at}

@@ -1,6 +1,5 @@
 -- `ring::search` meets its contract: 10, 11, or the ring. Assumes nothing.
 -- what is known where the threshold is reached at 1 cm, and that is not the farthest distance
-use Prim.Native.Nat.{ℕ}
 use mathlib.Core.Path.{◌≡◌, refl, sym, ◌∙◌, subst}
 use native.Mathlib.Omega.{arith}
 use Rattle.receptor.specs.Receptor.{farthest}

@@ -8,7 +8,7 @@ use Rattle.guidance.specs.declared.Case.{Case}
 use Rattle.guidance.specs.Waves.{overpressure}
 use Rattle.layout.specs.declared.Ends.{Ends}
 use Rattle.blast.specs.WaveEnds.{WaveEnds}
-use Rattle.blast.specs.Ending.{wave_ends}
+use Rattle.blast.proofs.Ending.{wave_ends}
 use Rattle.receptor.specs.Receptor.{moved, farthest}
 use Rattle.ring.specs.declared.Side.{Side}
 use Rattle.ring.specs.declared.Side.TheVariants.{Lower, Upper}

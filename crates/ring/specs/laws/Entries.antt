@@ -9,8 +9,8 @@ use Rattle.guidance.specs.Cases.{Air}
 use Rattle.hexadecimals.specs.Digits.{all_digits, bytes_of}
 use Rattle.refusals.specs.declared.Fault.{Fault}
 use Rattle.refusals.specs.Order.{Test, first_of}
-use Rattle.refusals.specs.laws.Order.{or_else, first_held, same_held}
-use Rattle.refusals.specs.laws.Numbers.{no_fault}
+use Rattle.refusals.proofs.laws.Order.{or_else, first_held, same_held}
+use Rattle.refusals.proofs.laws.Numbers.{no_fault}
 use Rattle.fields.specs.Bytes.{fields_of}
 use Rattle.limits.specs.declared.Checked.{Checked}
 use Rattle.limits.specs.Tests.{outside}

@@ -4,7 +4,7 @@ use Rattle.std.proofs.Common.{arith}
 use Rattle.guidance.specs.declared.Case.{Case}
 use Rattle.guidance.specs.Cases.{Air, Accepted}
 use Rattle.guidance.specs.CloudWords.{Heated}
-use Rattle.guidance.specs.laws.Domain.{accepted}
+use Rattle.guidance.proofs.laws.Domain.{accepted}
 use Rattle.receptor.specs.Receptor.{moved, farthest}
 use Rattle.receptor.specs.laws.Moved.{heated_moved, within_nearer, never_beyond}
 use Rattle.receptor.specs.laws.Reach.{farthest_reached}

@@ -1,6 +1,6 @@
 -- `rules::rules_of` meets its contract: all in the case's own air. Assumes nothing.
-use Rattle.guidance.specs.laws.Limits.{detonates, burns}
-use Rattle.guidance.specs.laws.Domain.{own_air}
+use Rattle.guidance.proofs.laws.Limits.{detonates, burns}
+use Rattle.guidance.proofs.laws.Domain.{own_air}
 use Rattle.rules.specs.laws.Deciding.{detonation_gave}
 use Rattle.rules.proofs.rules_of.Goals as goal
 

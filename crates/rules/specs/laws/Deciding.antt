@@ -13,9 +13,9 @@ use Rattle.guidance.specs.Distances.{nearer, cube034}
 use Rattle.guidance.specs.Waves.{near_field}
 use Rattle.layout.specs.declared.Ends.{Ends}
 use Rattle.blast.specs.Promises.{PressureSpan, ImpulseSpan, Rounded}
-use Rattle.blast.specs.Ending.{pressure_ended, impulse_ended}
+use Rattle.blast.proofs.Ending.{pressure_ended, impulse_ended}
 use Rattle.blast.specs.WaveEnds.{WaveEnds}
-use Rattle.blast.specs.Ending.{wave_ends}
+use Rattle.blast.proofs.Ending.{wave_ends}
 use Rattle.rules.specs.declared.Rule.{Rule}
 use Rattle.rules.specs.declared.Rule.TheVariants.{NearField, Detonation, Deflagration, DeflagrationAt034, Undecided}
 use Rattle.rules.specs.Rules.{detonation_rule, Fits, Gave}

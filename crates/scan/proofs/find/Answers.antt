@@ -1,5 +1,5 @@
 -- `scan::find` meets its contract: neither byte stands among those passed. Assumes nothing.
-use Rattle.std.proofs.Common.{◌-◌, rules}
+use Rattle.std.proofs.Common.{rules}
 use Rattle.scan.proofs.Reading.{seek_first, seek_a, seek_b, seek_again, seek_last}
 use Rattle.scan.proofs.find.Goals as goal
 

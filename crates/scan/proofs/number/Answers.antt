@@ -1,5 +1,5 @@
 -- `scan::number` meets its contract: the number so far goes on over what is left. Assumes nothing.
-use Rattle.std.proofs.Common.{◌-◌, rules}
+use Rattle.std.proofs.Common.{rules}
 use Rattle.scan.specs.Words.{shifted, spelled}
 use Rattle.scan.proofs.Folds.{fold_first, fold_again, fold_last}
 use Rattle.scan.proofs.number.Goals as goal

@@ -10,7 +10,7 @@ use Rattle.guidance.specs.Waves.{overpressure}
 use Rattle.hexadecimals.specs.Digits.{bytes_of}
 use Rattle.refusals.specs.declared.Fault.{Fault}
 use Rattle.refusals.specs.Order.{Test, ◌when◌, first_of, held}
-use Rattle.refusals.specs.laws.Order.{or_else, first_held, neither_found, passed}
+use Rattle.refusals.proofs.laws.Order.{or_else, first_held, neither_found, passed}
 use Rattle.fields.specs.Bytes.{fields_of}
 use Rattle.limits.specs.declared.Checked.{Checked}
 use Rattle.limits.specs.declared.Checked.TheVariants.{Sound}
@@ -19,7 +19,7 @@ use Rattle.frame.specs.Tests.{frame_tests, line_tests, beyond}
 use Rattle.frame.specs.Checks.{frame_checked, line_checked}
 use Rattle.layout.specs.declared.Ends.{Ends}
 use Rattle.blast.specs.Promises.{Ended}
-use Rattle.blast.specs.Ending.{wave_ends}
+use Rattle.blast.proofs.Ending.{wave_ends}
 use Rattle.places.specs.declared.Held.{Held}
 use Rattle.places.specs.declared.Content.TheVariants.{Taken}
 use Rattle.places.specs.Places.{stands_for}

@@ -6,7 +6,7 @@ use Rattle.guidance.specs.declared.Case.{Case}
 use Rattle.guidance.specs.Cases.{Accepted}
 use Rattle.guidance.specs.CloudWords.{Heated}
 use Rattle.guidance.specs.AirPressure.{air_of}
-use Rattle.guidance.specs.laws.Domain.{accepted}
+use Rattle.guidance.proofs.laws.Domain.{accepted}
 use Rattle.hexadecimals.specs.Digits.{bytes_of}
 use Rattle.refusals.specs.declared.Fault.{Fault}
 use Rattle.refusals.specs.Order.{Test, first_of}

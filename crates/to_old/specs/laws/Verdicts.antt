@@ -10,7 +10,7 @@ use Rattle.guidance.specs.CloudWords.{Heated}
 use Rattle.refusals.specs.declared.Fault.{Fault}
 use Rattle.refusals.specs.declared.Fault.TheVariants.{Digit}
 use Rattle.refusals.specs.Order.{first_of, held}
-use Rattle.refusals.specs.laws.Order.{or_else, first_held, neither_found, passed, absent}
+use Rattle.refusals.proofs.laws.Order.{or_else, first_held, neither_found, passed, absent}
 use Rattle.fields.specs.Bytes.{fields_of}
 use Rattle.limits.specs.Tests.{value_tests, field_tests}
 use Rattle.limits.specs.Checks.{checked_by}

@@ -1,5 +1,4 @@
 -- `totals::afresh` meets its contract: the totals of the places passed. Assumes nothing.
-use Prim.Native.Nat.{◌-◌}
 use native.Mathlib.Omega.{arith}
 use borrow.Author.Rules.{rules}
 use Rattle.places.specs.laws.Contents.{unmapped}

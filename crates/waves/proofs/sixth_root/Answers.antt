@@ -7,9 +7,9 @@ use native.Mathlib.Omega.{arith}
 use Rattle.exact.specs.Fraction.{Ratio, whole, ◌⊕◌, ◌⊗◌, ◌⊖◌, power, of_ratio}
 use Rattle.exact.specs.Series.{one_over}
 use Rattle.exact.specs.Formula.{bracket_at}
-use Rattle.exact.proofs.laws.Containment.{Inside}
+use Rattle.exact.specs.laws.Containment.{Inside}
 use Rattle.exact.proofs.laws.Points.{pair}
-use Rattle.exact.proofs.laws.Width.{half}
+use Rattle.exact.specs.laws.Width.{half}
 use Rattle.span.specs.declared.Span.{Span}
 use Rattle.span.specs.Spans.{fraction, FractionOf}
 use Rattle.span.specs.Enclosing.{Encloses, fraction_encloses, wider}

@@ -1,7 +1,7 @@
 -- Which numbers these refusals have not. Assumes nothing.
 use Rattle.std.specs.Prelude.{ℕ, ◌≡◌, refl, false, ◌∷◌, eqb}
-use Rattle.refusals.specs.laws.Order.{neither}
-use Rattle.refusals.specs.laws.Numbers.{numbers, among, no_fault}
+use Rattle.refusals.proofs.laws.Order.{neither}
+use Rattle.refusals.proofs.laws.Numbers.{numbers, among, no_fault}
 use Rattle.std.proofs.lemmas.Bool.{eqb-false}
 use Rattle.writable.specs.declared.Refusal.{Refusal}
 use Rattle.writable.specs.declared.Refusal.TheVariants.{Faulty, Space}

@@ -8,7 +8,7 @@ use borrow.Author.Tests.{le-ltb, ltb-false}
 use Rattle.guidance.specs.declared.Case.{Case}
 use Rattle.refusals.specs.declared.Fault.{Fault}
 use Rattle.refusals.specs.Order.{Test, ◌when◌, first_of}
-use Rattle.refusals.specs.laws.Order.{or_else, first_held, neither_found, none_first, applies, absent}
+use Rattle.refusals.proofs.laws.Order.{or_else, first_held, neither_found, none_first, applies, absent}
 use Rattle.limits.specs.Checks.{checked_by}
 use Rattle.writable.specs.declared.Refusal.{Refusal}
 use Rattle.writable.specs.declared.Refusal.TheVariants.{Faulty, Space}

@@ -3,7 +3,8 @@ use mathlib.Core.Path.{◌≡◌, ap, ◌∙◌}
 use Prim.Native.Nat.{suc, ◌*◌, ◌^◌, ◌<◌}
 use native.Mathlib.Omega.{arith}
 use lib.IntN.{ℤ, pos, negsuc, ◌-ℤ◌}
-use Rattle.signed.specs.Reading.{R, step, Read, as_pos, as_neg}
+use Rattle.signed.specs.Reading.{R, Read}
+use Rattle.signed.proofs.Reading.{step, as_pos, as_neg}
 use Rattle.enclosure.proofs.Differences.{opposite}
 use Rattle.enclosure.proofs.ExpSigns.{at_positive}
 use Rattle.enclosure.proofs.exponential.point.Goals as goal

@@ -1,5 +1,4 @@
 -- `enclosure::logarithm::odd_series` meets its contract. Assumes nothing.
-use Prim.Native.Nat.{◌-◌}
 use Rattle.enclosure.proofs.OddSeries.{At}
 use Rattle.enclosure.proofs.logarithm.odd_series.Given as goal
 

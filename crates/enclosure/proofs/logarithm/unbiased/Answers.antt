@@ -10,7 +10,7 @@ use mir.ValLaws.{to_z_pos}
 use borrow.Author.Rules.{rules}
 use Rattle.enclosure.specs.LogSteps.{Unbiased}
 use Rattle.fixed.specs.SignedLaws.{minus_parts}
-use Rattle.signed.specs.Reading.{step}
+use Rattle.signed.proofs.Reading.{step}
 use Rattle.enclosure.proofs.LnInterval.{unbiased_fits}
 use Rattle.enclosure.proofs.logarithm.unbiased.Goals as goal
 

@@ -7,8 +7,10 @@ use native.Mathlib.Omega.{arith}
 use lib.IntN.{ℤ, pos, negsuc, ◌-ℤ◌}
 use lib.Signed.{mag, lt_z}
 use Rattle.signed.specs.TwoParts.{up, dn}
-use Rattle.signed.specs.Reading.{R, back, step}
-use Rattle.signed.specs.Magnitude.{size}
+use Rattle.signed.specs.Reading.{R}
+use Rattle.signed.proofs.Back.{back}
+use Rattle.signed.proofs.Reading.{step}
+use Rattle.signed.proofs.Magnitude.{size}
 use Rattle.signed.specs.Comparisons.{less, not-less, at_most, above}
 use Rattle.fixed.specs.SignedLaws.{least, minus_parts}
 use Rattle.enclosure_linked.proofs.asked.exponent.Goals as goal

@@ -1,9 +1,6 @@
 -- `places::Places::last` meets its contract: of the places passed, the last that holds a case. Assumes nothing.
-use Prim.Native.Nat.{◌-◌}
 use borrow.Author.Rules.{rules}
-use borrow.Author.Tests.{not-true, not-false}
 use mathlib.Core.Path.{◌∙◌, sym}
-use mathlib.Core.Logic.{⊎_elim}
 use Rattle.places.specs.laws.Contents.{unmapped}
 use Rattle.places.proofs.Scans.{scan_first, scan_hole, scan_case, scan_last}
 use Rattle.places.proofs.Places.last.Goals as goal
@@ -17,9 +14,10 @@ pub loop-i-preserved : goal.loop-i-preserved
 loop-i-preserved c =
     let inside = c.loop-i-test.true in
     let hole = sym c.is_hole.ensures in
-    elim c.if-not-is_hole.branch
-    [ then-not-is_hole w ↦ rw w.last-is (scan_case c.loop-i.invariant inside _ (hole ∙ w.if-not-is_hole.true))
-    | else-not-is_hole w ↦ rw w.last-is (scan_hole c.loop-i.invariant inside _ (hole ∙ w.if-not-is_hole.false)) ]
+    elim c.if-not-is_hole.branch [
+      | then-not-is_hole w ↦ rw w.last-is (scan_case c.loop-i.invariant inside _ (hole ∙ w.if-not-is_hole.true))
+      | else-not-is_hole w ↦ rw w.last-is (scan_hole c.loop-i.invariant inside _ (hole ∙ w.if-not-is_hole.false))
+    ]
 
 pub returns : goal.returns
 returns c =

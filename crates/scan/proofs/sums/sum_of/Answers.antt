@@ -1,5 +1,5 @@
 -- `scan::sums::sum_of` meets its contract: the sum so far goes on over what is left. Assumes nothing.
-use Rattle.std.proofs.Common.{◌-◌, rules}
+use Rattle.std.proofs.Common.{rules}
 use Rattle.scan.specs.Sums.{next, sum_of}
 use Rattle.scan.proofs.Folds.{fold_first, fold_again, fold_last}
 use Rattle.scan.proofs.sums.sum_of.Goals as goal

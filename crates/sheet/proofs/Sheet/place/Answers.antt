@@ -1,6 +1,6 @@
 -- `sheet::Sheet::place` meets its contract: tests 7 and 17 in their order, then the case with its end. Assumes nothing.
 use mathlib.Core.Path.{sym, ◌∙◌}
-use Rattle.guidance.specs.laws.Domain.{accepted, own_air}
+use Rattle.guidance.proofs.laws.Domain.{accepted, own_air}
 use Rattle.places.specs.laws.Contents.{unmapped}
 use Rattle.sheet.specs.Operations.{list_of}
 use Rattle.sheet.specs.laws.Entering.{by_7, by_17, place_left, by_none}

@@ -1,5 +1,4 @@
 -- `vectors::figures::rank_at` meets its contract: the pairs passed are reached. Assumes nothing.
-use Prim.Native.Nat.{◌-◌}
 use mathlib.Core.Path.{sym, ◌∙◌}
 use Rattle.vectors.proofs.Raised.{rank_first, rank_again, rank_found, rank_last}
 use Rattle.vectors.proofs.figures.rank_at.Goals as goal

@@ -1,5 +1,4 @@
 -- `vectors::judging::after_values` meets its contract, a word a turn. Assumes nothing.
-use Prim.Native.Nat.{◌-◌}
 use mathlib.Core.Path.{ap}
 use Rattle.scan.specs.declared.Word.{Word}
 use Rattle.vectors.proofs.Turns.{pass_first, pass_again, pass_last}

@@ -1,5 +1,4 @@
 -- `vectors::judging::are_right` meets its contract: the figures passed are right. Assumes nothing.
-use Prim.Native.Nat.{◌-◌}
 use Rattle.vectors.proofs.Turns.{right_first, right_again, right_not, right_last}
 use borrow.Author.Rules.{rules}
 use Rattle.vectors.proofs.judging.are_right.Goals as goal

@@ -1,5 +1,4 @@
 -- `vectors::judging::is_same` meets its contract: the bytes passed are the same. Assumes nothing.
-use Prim.Native.Nat.{◌-◌}
 use Rattle.vectors.proofs.Turns.{alike_first, alike_again, alike_not, alike_last}
 use borrow.Author.Rules.{rules}
 use Rattle.vectors.proofs.judging.is_same.Goals as goal

@@ -12,8 +12,9 @@ use Rattle.exact.specs.Bracket.{Bracket, over_pairs, quotients, smaller, larger}
 use Rattle.exact.specs.Series.{one_over, even, ln_term, gap, ln_tail, series_lower, series_upper, climb, exponent, fraction, argument, third, factorial, exp_term, exp_lower, exp_tail, exp_upper}
 use Rattle.exact.specs.LnExp.{ln2_lower, ln2_upper, ln_lower, ln_upper, ln_lower_at, ln_upper_at, exp_upper_of, one_over_of, exp_lower_at, exp_upper_at}
 use Rattle.exact.specs.Formula.{Formula, mul, bracket_at, lift, ◌>>◌, quotient_b, ln_b, exp_b}
-use Rattle.exact.proofs.laws.Pairs.{◌⊆◌}
-use Rattle.exact.proofs.laws.Containment.{Inside, inside, inside_true, contains_holds}
+use Rattle.exact.specs.laws.Pairs.{◌⊆◌}
+use Rattle.exact.specs.laws.Containment.{Inside}
+use Rattle.exact.proofs.laws.Containment.{inside, inside_true, contains_holds}
 use Rattle.exact.specs.laws.Decide.{dec_above0, dec_f, dec_positive, dec_positives}
 use Rattle.exact.proofs.laws.Points.{point_inside}
 use Rattle.exact.proofs.laws.Replacing.{Within, within_refl, within_trans, mul_within, value_within, product_within, within_inside}
@@ -26,8 +27,8 @@ use Rattle.guidance.specs.Ranges.{ranges, range_at}
 use Rattle.guidance.specs.Clouds.{over, range_of, ground_factor, lean_by, lean_factor, aerosol_factor, energy}
 use Rattle.guidance.specs.Distances.{less, metres, nearer, cube02, cube025}
 use Rattle.guidance.specs.Waves.{number, thousandths, reduced_distance, aerosol_pressure, near_field, detonation_pressure, range_end, slow_front, front_speed_of, reduced_pressure, in_pascals, overpressure}
-use Rattle.guidance.specs.laws.Limits.{heat_given}
-use Rattle.guidance.specs.laws.Metres.{EnergyIsAir, nearer_metres, unit_distance, aerosol_within}
+use Rattle.guidance.proofs.laws.Limits.{heat_given}
+use Rattle.guidance.proofs.laws.Metres.{EnergyIsAir, nearer_metres, unit_distance, aerosol_within}
 
 -- the point v
 abbrev pub point : Ratio → Bracket

@@ -16,7 +16,7 @@ use Rattle.writable.specs.declared.Verdict as verdicts
 use Rattle.writable.specs.declared.Verdict.TheVariants as written
 use Rattle.writable.specs.Refusals as writings
 use Rattle.from_old.specs.declared.Verdict as old_verdicts
-use Rattle.from_old.specs.declared.Verdict.TheVariants as old_line_lem
+use Rattle.from_old.specs.declared.Verdict.TheVariants as old_verdicts
 use Rattle.from_old.specs.Refusals as old_lines
 use Rattle.from_old.specs.Tests.{line_verdict}
 use Rattle.to_old.specs.declared.Verdict as back_verdicts
@@ -24,7 +24,7 @@ use Rattle.to_old.specs.declared.Verdict.TheVariants as back
 use Rattle.to_old.specs.Refusals as ways_back
 use Rattle.to_old.specs.Tests as old_tests
 use Rattle.refusals.specs.Order.{Test, ◌when◌, first_of}
-use Rattle.refusals.specs.laws.Order.{or_else, first_held, applies, absent}
+use Rattle.refusals.proofs.laws.Order.{or_else, first_held, applies, absent}
 use Rattle.fields.specs.Bytes.{fields_of}
 use Rattle.frame.specs.Tests.{frame_tests}
 use Rattle.sheet.specs.declared.Refusal as of_adding
@@ -38,7 +38,7 @@ use Rattle.linked.specs.OldLines.{CameIn, WentBack}
 use Rattle.linked.specs.Writings.{WroteCase}
 use Rattle.linked.specs.Reasons as reasons
 use Rattle.numbering.specs.Entries.Refused.{answer, ring, writing, old_line, way_back, adding}
-use Rattle.numbering.specs.laws.Retired.{retired}
+use Rattle.numbering.proofs.laws.Retired.{retired}
 
 code_retired : (v : Verdict) → code v ≡ 4 → ⊥
 code_retired (Accepted c) = λ e. omega arith
@@ -73,8 +73,8 @@ pub came_in_not_4 : {line before after : List ℕ} {n : ℕ} → CameIn line bef
 came_in_not_4 {line} {before} e h = go (line_verdict line (length before)) (sym e.returned ∙ h)
   where
     go : (v : old_verdicts.Verdict) → old_lines.code v ≡ 4 → ⊥
-    go (old_line_lem.Accepted c) = λ z. omega arith
-    go (old_line_lem.Refused r) = retired (old_line r)
+    go (old_verdicts.Accepted c) = λ z. omega arith
+    go (old_verdicts.Refused r) = retired (old_line r)
 
 pub went_back_not_4 : {frame before after : List ℕ} {n : ℕ} → WentBack frame before n after → n ≡ 4 → ⊥
 went_back_not_4 {frame} {before} e h = go (old_tests.frame_verdict frame (length before)) (sym e.returned ∙ h)

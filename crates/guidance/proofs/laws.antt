@@ -1,4 +1,4 @@
--- The laws: nothing here need be believed.
+-- The laws of the definitions: nothing here need be believed.
 pub mod Ranges
 pub mod Limits
 pub mod Fronts

@@ -12,7 +12,7 @@ use Rattle.guidance.specs.Clouds.{over, energy}
 use Rattle.guidance.specs.Distances.{less, metres, cubed, nearer, farther, cube02, cube025}
 use Rattle.guidance.specs.Waves.{near_field}
 use Rattle.guidance.specs.CloudWords.{CloudOf, reduction, weight_of, scaled_by, millionths}
-use Rattle.guidance.specs.laws.Order.{less_same, less_value, less_words}
+use Rattle.guidance.proofs.laws.Order.{less_same, less_value, less_words}
 
 -- As quotients
 

@@ -11,9 +11,9 @@ use Rattle.guidance.specs.Distances.{metres, cubed, nearer, farther, cube02, cub
 use Rattle.guidance.specs.AirPressure.{air_of}
 use Rattle.guidance.specs.Cases.{Air, Fields, Accepted}
 use Rattle.guidance.specs.CloudWords.{Heated, reduction, joules_of, parts_of}
-use Rattle.guidance.specs.laws.Limits.{placed_most, joules_least, parts_least, parts_most}
-use Rattle.guidance.specs.laws.Energies.{energy_is}
-use Rattle.guidance.specs.laws.Order.{least_of}
+use Rattle.guidance.proofs.laws.Limits.{placed_most, joules_least, parts_least, parts_most}
+use Rattle.guidance.proofs.laws.Energies.{energy_is}
+use Rattle.guidance.proofs.laws.Order.{least_of}
 
 pub heated : {air : ℕ} {c : Case} → Accepted air c → Heated c
 heated a = record { fields = a.fields; heat = a.heat }

@@ -8,7 +8,7 @@ use Rattle.guidance.specs.declared.Cloud.{Cloud}
 use Rattle.guidance.specs.Substances.{heat_of}
 use Rattle.guidance.specs.Clouds.{over, range_of, heterogeneous, deflagrates, ground_factor, lean_by, lean_factor, aerosol_factor, energy}
 use Rattle.guidance.specs.CloudWords.{Heated, reduction, CloudOf, joules_of, parts_of}
-use Rattle.guidance.specs.laws.Limits.{joules_least, joules_most, parts_least, parts_most}
+use Rattle.guidance.proofs.laws.Limits.{joules_least, joules_most, parts_least, parts_most}
 
 ground_is : (c : Case) → ground_factor c ≈ whole (cond (eqb c.placement 1) 2 1)
 unfolding ground_factor

@@ -10,7 +10,7 @@ use Rattle.guidance.specs.declared.Case.{Case}
 use Rattle.guidance.specs.Clouds.{energy}
 use Rattle.guidance.specs.Distances.{less, metres, cubed, nearer, farther}
 use Rattle.guidance.specs.Waves.{number, raised, third, thousandths, reduced_distance, aerosol_pressure}
-use Rattle.guidance.specs.laws.Order.{less_same, less_value}
+use Rattle.guidance.proofs.laws.Order.{less_same, less_value}
 
 -- E is P0
 pub record EnergyIsAir (air : ℕ) (c : Case) : Type 0 where

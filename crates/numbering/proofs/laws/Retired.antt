@@ -1,7 +1,7 @@
 -- No refusal of any entry has the number 4 (request 2). Assumes nothing.
 use Rattle.std.specs.Prelude.{◌≡◌, refl}
 use Rattle.std.proofs.Common.{arith}
-use Rattle.refusals.specs.laws.Numbers.{no_fault}
+use Rattle.refusals.proofs.laws.Numbers.{no_fault}
 use Rattle.frame.specs.declared.Refusal.TheVariants as answers
 use Rattle.ring.specs.declared.Refusal.TheVariants as rings
 use Rattle.writable.specs.declared.Refusal.TheVariants as writings

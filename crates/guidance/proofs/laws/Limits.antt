@@ -12,7 +12,7 @@ use Rattle.guidance.specs.declared.Cloud.{Cloud}
 use Rattle.guidance.specs.Clouds.{range_of, deflagrates}
 use Rattle.guidance.specs.Cases.{Fields}
 use Rattle.guidance.specs.CloudWords.{joules_of, parts_of, CloudOf}
-use Rattle.guidance.specs.laws.Ranges.{at_least1, sixteen_places}
+use Rattle.guidance.proofs.laws.Ranges.{at_least1, sixteen_places}
 use Rattle.exact.proofs.laws.Tables.{both, at_entry}
 
 -- Choices

@@ -1,0 +1,4 @@
+-- Laws of the definitions.
+pub mod Retired
+pub mod Returned
+pub mod Words

@@ -1,3 +1,0 @@
--- Laws of the definitions.
-pub mod RoundTrip
-pub mod Examples
