@@ -10,9 +10,11 @@ Where a definition and a lemma on it fall together, the lemma gets `_lem`. Funct
 import glob
 import os
 import re
+import subprocess
 import sys
 
-KIT = "/opt/rattle/rattle"
+# the kit's libraries lie beside its first page
+KIT = os.path.join(os.path.dirname(subprocess.run(["rt", "doc"], capture_output=True, text=True, check=True).stdout.strip()), "rattle")
 LIBRARIES = ["logic", "core", "std", "std_alloc", "std_collections", "std_heap", "std_io", "antt"]
 TOKEN = re.compile(r"--[^\n]*|//[^\n]*|\"(?:[^\"\\]|\\.)*\"|[^\s(){}.;,@\"«»\[\]\\]+")
 IMPORT = re.compile(r"use (?:Rattle\.[^\s{]+)\.\{([^}]*)\}")
