@@ -9,7 +9,7 @@ use Rattle.exact.specs.Formula.{Formula}
 use Rattle.exact.specs.Holding.{Holds}
 use Rattle.fixed.specs.Millis.{milli, millis}
 use Rattle.probits.specs.Promises.{Thousandth}
-use Rattle.layout.specs.declared.Probit.{Probit}
+use Rattle.layout.specs.declared.Interval.{Interval}
 use Rattle.exact.specs.Between.{whole_z}
 use Rattle.exact.proofs.laws.Between.{between}
 use Rattle.answer.specs.Answer.{ProbitEnds}
@@ -35,7 +35,7 @@ mag_of : (z : ℤ) → up z < 2 ^ 31 → dn z < 2 ^ 31 → mag z < 2 ^ 31
 mag_of (pos n) u d = omega arith
 mag_of (negsuc n) u d = omega arith
 
-pub probit_ends : {x : Formula} (p : Probit) → Holds (millis p.lower p.upper) x → Thousandth p.lower p.upper → ProbitEnds x p
+pub probit_ends : {x : Formula} (p : Interval ℤ) → Holds (millis p.lower p.upper) x → Thousandth p.lower p.upper → ProbitEnds x p
 unfolding millis
 probit_ends p h k =
     record {

@@ -1,4 +1,5 @@
 -- The numbers of an answer, from what the wave and the probits promise. Assumes nothing.
+use Rattle.std.specs.Prelude.{ℕ, ℤ}
 use native.Mathlib.Nat.{le_refl}
 use native.Mathlib.Omega.{arith}
 use Rattle.span.specs.Enclosing.{Encloses}
@@ -11,8 +12,8 @@ use Rattle.guidance.specs.AirPressure.{air_of}
 use Rattle.guidance.specs.Waves.{overpressure, impulse}
 use Rattle.guidance.specs.Probits.{probit1, probit2, probit3, probit4, probit5}
 use Rattle.guidance.proofs.laws.Limits.{range_most}
-use Rattle.layout.specs.declared.Ends.{Ends}
-use Rattle.layout.specs.declared.Probits.{Probits}
+use Rattle.layout.specs.declared.Five.{Five}
+use Rattle.layout.specs.declared.Interval.{Interval}
 use Rattle.blast.specs.declared.Wave.{Wave}
 use Rattle.blast.specs.Promises.{WaveOf, Rounded}
 use Rattle.blast.proofs.Ending.{pressure_ended, impulse_ended}
@@ -28,7 +29,7 @@ module _ {c : Case} {k : Cloud} {w : Wave} (a : Accepted (air_of c) c) (q : Clou
   impulse_encloses : Encloses w.impulse (impulse (air_of c) c) enough
   impulse_encloses = v.impulse.value.encloses enough (le_refl enough)
 
-  pub figures : {p i : Ends} {r : Probits} → Rounded w.pressure p → Rounded w.impulse i
+  pub figures : {p i : Interval ℕ} {r : Five (Interval ℤ)} → Rounded w.pressure p → Rounded w.impulse i
       → AllProbits w.pressure w.impulse (air_of c) c.body r
       → FiguresOf c (record { range = k.range; pressure = p; impulse = i; probits = r })
   unfolding probit1 probit2 probit3 probit4 probit5

@@ -4,7 +4,7 @@ use mathlib.Core.List.{List}
 use Prim.Native.Nat.{ℕ}
 use lib.ListN.{length}
 use Rattle.guidance.specs.declared.Case.{Case}
-use Rattle.frame.specs.declared.Verdict.{Verdict}
+use Rattle.frame.specs.Verdict.{Verdict}
 use Rattle.frame.specs.Verdicts.{frame_verdict, line_verdict}
 use Rattle.frame.specs.laws.Verdicts.{Taken, frame_accepted, line_accepted}
 use Rattle.answer.specs.Entering.{Due, Enterable}

@@ -1,6 +1,6 @@
 -- What an accepted case's answer frame is (document 01, "The answer frame", "What exact means"), and what the entries promise.
 -- The interval ends are open: they enclose their value within the written width. All else is an equation.
-use Rattle.std.specs.Prelude.{ℕ, ◌^◌, ◌<◌, ◌≡◌, List, pos, length, take, drop}
+use Rattle.std.specs.Prelude.{ℤ, ℕ, ◌^◌, ◌<◌, ◌≡◌, List, pos, length, take, drop, Err, Ok}
 use Rattle.std.specs.Int.Signed.{mag}
 use Rattle.exact.specs.Fraction.{◌⊑◌, ◌⊟◌}
 use Rattle.exact.specs.Formula.{Formula}
@@ -11,28 +11,25 @@ use Rattle.guidance.specs.AirPressure.{air_of}
 use Rattle.guidance.specs.Waves.{overpressure, impulse}
 use Rattle.guidance.specs.Probits.{probit1, probit2, probit3, probit4, probit5}
 use Rattle.damage.specs.Damage.{damage}
-use Rattle.frame.specs.declared.Verdict.{Verdict}
-use Rattle.frame.specs.declared.Verdict.TheVariants.{Accepted, Refused}
+use Rattle.frame.specs.Verdict.{Verdict}
 use Rattle.frame.specs.Verdicts.{frame_verdict, line_verdict}
 use Rattle.blast.specs.WaveEnds.{WaveEnds}
-use Rattle.layout.specs.declared.Ends.{Ends}
-use Rattle.layout.specs.declared.Probit.{Probit}
-use Rattle.layout.specs.declared.Probits.{Probits}
-use Rattle.layout.specs.declared.Damages.{Damages}
+use Rattle.layout.specs.declared.Five.{Five}
+use Rattle.layout.specs.declared.Interval.{Interval}
 use Rattle.layout.specs.Places.{answer_bytes}
 
 -- a probit in thousandths: upper - lower is at most 2
-pub record ProbitEnds (x : Formula) (p : Probit) : Type 0 where
+pub record ProbitEnds (x : Formula) (p : Interval ℤ) : Type 0 where
   pub value : ExactBetween 1000 x p.lower p.upper
   pub closed : whole_z p.upper ⊟ whole_z p.lower ⊑ whole_z (pos 2)
   pub lower_fits : mag p.lower < 2 ^ 31
   pub upper_fits : mag p.upper < 2 ^ 31
 
 -- the lower damage is read at the lower end of the probit, the upper at the upper end
-unfoldable pub reading : Probit → Ends
+unfoldable pub reading : Interval ℤ → Interval ℕ
 reading p = record { lower = damage p.lower; upper = damage p.upper }
 
-unfoldable pub readings : Probits → Damages
+unfoldable pub readings : Five (Interval ℤ) → Five (Interval ℕ)
 readings p =
     record {
       first = reading p.first;
@@ -45,9 +42,9 @@ readings p =
 -- DEMAND 3, of one answer frame: its 77 bytes are the range, the ends of the seven intervals and the ten damages in their places
 pub record Answer (c : Case) (bytes : List ℕ) : Type 0 where
   pub size : length bytes ≡ 77
-  pub pascals : Ends
-  pub pascal_seconds : Ends
-  pub probits : Probits
+  pub pascals : Interval ℕ
+  pub pascal_seconds : Interval ℕ
+  pub probits : Five (Interval ℤ)
   pub are : bytes ≡ answer_bytes (range_of c) pascals pascal_seconds probits (readings probits)
   pub pressure_ends : WaveEnds (overpressure (air_of c) c) pascals
   pub impulse_ends : WaveEnds (impulse (air_of c) c) pascal_seconds
@@ -65,8 +62,8 @@ pub record Wrote (c : Case) (before after : List ℕ) : Type 0 where
 
 -- by the verdict: a refusal leaves the area as it was
 abbrev pub Answered : (v : Verdict) (before after : List ℕ) → Type 0
-Answered (Accepted c) before after = Wrote c before after
-Answered (Refused r) before after = after ≡ before
+Answered (Ok c) before after = Wrote c before after
+Answered (Err r) before after = after ≡ before
 
 -- the entries: what comes back is the verdict, and the area is as the verdict says; a line is judged as the frame that it spells
 pub record FromFrame (frame before : List ℕ) (v : Verdict) (after : List ℕ) : Type 0 where

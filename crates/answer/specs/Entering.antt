@@ -1,13 +1,12 @@
 -- What the private steps of the entries promise: the numbers of an answer, before they are written. Assumes nothing.
-use Rattle.std.specs.Prelude.{ℕ, ◌≤◌, ◌≡◌, List, length}
+use Rattle.std.specs.Prelude.{ℕ, ◌≤◌, ◌≡◌, List, length, Ok}
 use Rattle.guidance.specs.declared.Case.{Case}
 use Rattle.guidance.specs.Cases as cases
 use Rattle.guidance.specs.Clouds.{range_of}
 use Rattle.guidance.specs.AirPressure.{air_of}
 use Rattle.guidance.specs.Waves.{overpressure, impulse}
 use Rattle.guidance.specs.Probits.{probit1, probit2, probit3, probit4, probit5}
-use Rattle.frame.specs.declared.Verdict.{Verdict}
-use Rattle.frame.specs.declared.Verdict.TheVariants.{Accepted}
+use Rattle.frame.specs.Verdict.{Verdict}
 use Rattle.answer.specs.declared.Figures.{Figures}
 use Rattle.blast.specs.WaveEnds.{WaveEnds}
 use Rattle.answer.specs.Answer.{ProbitEnds, Answered}
@@ -30,7 +29,7 @@ pub record Due (c : Case) (area : List ℕ) : Type 0 where
 
 -- a verdict over an area: an accepted case is due its answer
 abbrev pub Enterable : Verdict → List ℕ → Type 0
-Enterable v area = (c : Case) → v ≡ Accepted c → Due c area
+Enterable v area = (c : Case) → v ≡ Ok c → Due c area
 
 -- the verdict comes back, and the area is as it says
 pub record Entered (v : Verdict) (before : List ℕ) (r : Verdict) (after : List ℕ) : Type 0 where

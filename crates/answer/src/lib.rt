@@ -7,8 +7,9 @@ ghost use Rattle.guidance.specs.AirPressure.{air_of};
 ghost use Rattle.answer.specs.Answer.{reading, readings, Wrote, FromFrame, FromLine};
 ghost use Rattle.answer.specs.Entering.{FiguresOf, Due, Enterable, Entered};
 
-use frame::Verdict;
-use guidance::Case;
+use blast::Explosion;
+use frame::Refusal;
+use guidance::{Case, Setting};
 use layout::{Damages, Ends, Probit, Probits};
 
 // An answer's numbers, but for the damages, which the probits give.
@@ -24,14 +25,14 @@ fn figures_of(c: Case) -> Figures
     requires { Accepted (air_of c) c }
     ensures { FiguresOf c result }
 {
-    let air = guidance::air_of(c);
-    let k = guidance::cloud_of(c);
-    let w = blast::wave_of(c, k, air);
+    let at = Setting::in_own_air(c);
+    let x = Explosion::of(at);
+    let w = x.wave();
     let pressure = blast::ends(w.pressure);
     let impulse = blast::ends(w.impulse);
-    let probits = probits::probits_of(w.pressure, w.impulse, air, c.body);
+    let probits = probits::probits_of(w.pressure, w.impulse, at.air, c.body);
     Figures {
-        range: k.range,
+        range: at.cloud.range,
         pressure,
         impulse,
         probits,
@@ -46,21 +47,11 @@ fn reading_of(p: Probit) -> Ends
     Ends { lower, upper }
 }
 
+#[tactic(auto, unfolding(crate::specs::Answer::readings))]
 fn readings_of(p: Probits) -> Damages
     ensures { result ≡ readings p }
 {
-    let first = reading_of(p.first);
-    let second = reading_of(p.second);
-    let third = reading_of(p.third);
-    let fourth = reading_of(p.fourth);
-    let fifth = reading_of(p.fifth);
-    Damages {
-        first,
-        second,
-        third,
-        fourth,
-        fifth,
-    }
+    p.map(reading_of)
 }
 
 // The answer, into the area's first 77 bytes.
@@ -74,31 +65,27 @@ fn write(c: Case, area: &mut [u8])
 }
 
 // What the verdict asks of the area.
-fn enter(v: Verdict, area: &mut [u8]) -> Verdict
-    requires { Enterable v area.old }
-    ensures { Entered v area.old result area.new }
+fn enter(verdict: Result<Case, Refusal>, area: &mut [u8]) -> Result<Case, Refusal>
+    requires { Enterable verdict area.old }
+    ensures { Entered verdict area.old result area.new }
 {
-    match v {
-        Verdict::Accepted(c) => {
-            write(c, area);
-            Verdict::Accepted(c)
-        }
-        Verdict::Refused(r) => Verdict::Refused(r),
-    }
+    let c = verdict?;
+    write(c, area);
+    Ok(c)
 }
 
 // A case given as a frame's bytes.
-pub fn from_frame(frame: &[u8], area: &mut [u8]) -> Verdict
+pub fn from_frame(frame: &[u8], area: &mut [u8]) -> Result<Case, Refusal>
     ensures { FromFrame frame.now area.old result area.new }
 {
-    let v = frame::decide_frame(frame, area.len());
-    enter(v, area)
+    let verdict = frame::decide_frame(frame, area.len());
+    enter(verdict, area)
 }
 
 // A case given as a line of hexadecimal digits.
-pub fn from_line(line: &[u8], area: &mut [u8]) -> Verdict
+pub fn from_line(line: &[u8], area: &mut [u8]) -> Result<Case, Refusal>
     ensures { FromLine line.now area.old result area.new }
 {
-    let v = frame::decide_line(line, area.len());
-    enter(v, area)
+    let verdict = frame::decide_line(line, area.len());
+    enter(verdict, area)
 }

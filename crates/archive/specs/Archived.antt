@@ -1,6 +1,5 @@
 -- The cases of a study sheet stored by column (request 12).
-use Rattle.std.specs.Prelude.{ℕ, List, [], ◌∷◌, ◌++◌, length}
-use Rattle.std.proofs.Math.Option.{Option, none, some}
+use Rattle.std.specs.Prelude.{ℕ, List, [], ◌∷◌, ◌++◌, length, Option, None, Some}
 use Rattle.fields.specs.Bytes.{long_frame}
 use Rattle.places.specs.declared.Held.{Held}
 use Rattle.places.specs.Holes.{closed}
@@ -8,8 +7,8 @@ use Rattle.columns.specs.Stored.{stored}
 
 -- the frame of what a place holds, filled to 24 bytes; a gap has none
 abbrev pub frame_at : Option Held → List ℕ
-frame_at none = []
-frame_at (some h) = long_frame h.case
+frame_at None = []
+frame_at (Some h) = long_frame h.case
 
 -- those of the cases in order, without the gaps
 unfoldable pub frames_of : List (Option Held) → List ℕ

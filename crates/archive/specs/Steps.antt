@@ -1,6 +1,5 @@
 -- What the steps of gathering promise one another.
-use Rattle.std.specs.Prelude.{ℕ, ◌+◌, ◌*◌, ◌≡◌, List, length}
-use Rattle.std.proofs.Math.Option.{Option, none, some}
+use Rattle.std.specs.Prelude.{ℕ, ◌+◌, ◌*◌, ◌≡◌, List, length, Option, None, Some}
 use Rattle.byte_numbers.specs.Storing.{Stored}
 use Rattle.places.specs.declared.Held.{Held}
 use Rattle.places.specs.Holes.{closed}
@@ -8,8 +7,8 @@ use Rattle.archive.specs.Archived.{frame_at, frames_of}
 
 -- how many cases a place holds
 abbrev pub cases : Option Held → ℕ
-cases none = 0
-cases (some h) = 1
+cases None = 0
+cases (Some h) = 1
 
 -- behind n frames stands what a place adds, and there are r
 pub record Put (x : Option Held) (n : ℕ) (before : List ℕ) (r : ℕ) (after : List ℕ) : Type 0 where

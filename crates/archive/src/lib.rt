@@ -1,53 +1,39 @@
 // A study sheet stored by column: the frames of its cases in order, without the gaps, each in 24 bytes.
 #![tactic(auto)]
 
-ghost use Rattle.std.specs.Prelude.{◌+◌, ◌*◌, ◌≤◌, ◌≡◌, length};
-ghost use Rattle.places.specs.Places.{holds, stands_for};
+ghost use Rattle.std.specs.Prelude.{◌≤◌, ◌≡◌, length};
+ghost use Rattle.places.specs.Places.{stands_for};
 ghost use Rattle.columns.specs.Stored.{Stores};
 ghost use Rattle.archive.specs.Archived.{archived};
-ghost use Rattle.archive.specs.Steps.{Put, Gathered};
+ghost use Rattle.archive.specs.Steps.{Gathered};
 
-use columns::Storing;
-use places::{Content, Place, Places};
+use columns::{FRAME, FRAMES, Shortage};
+use places::Places;
 
-// The bytes of a frame.
-const FRAME: usize = 24;
-
-// The frame of what a place holds, behind n others; how many there are then.
-fn put_place(p: Place, n: usize, frames: &mut [u8]) -> usize
-    requires { 24 * n + 24 ≤ length frames.old }
-    ensures { Put (holds p) n frames.old result frames.new }
-{
-    let content = p.content;
-    match content {
-        Content::Hole => n,
-        Content::Taken(h) => {
-            let at = FRAME * n;
-            fields::write_long(&mut frames[at..at + FRAME], h.case);
-            n + 1
-        }
-    }
-}
+// The bytes of as many frames as there are places.
+const SIZE: usize = FRAME * FRAMES;
 
 // The frames of the cases in order; how many there are.
-fn gather(places: Places, frames: &mut [u8]) -> usize
+fn gather(places: &Places, frames: &mut [u8]) -> usize
     requires { length frames.old ≡ 1536 }
-    ensures { (result ≤ 64) × Gathered (stands_for places) frames.old result frames.new }
+    ensures { (result ≤ 64) × Gathered (stands_for places.now) frames.old result frames.new }
 {
+    // counted beside the loop, since it is what is handed back
     let mut n = 0;
-    for i in 0..64 {
-        let p = places.all[i];
-        n = put_place(p, n, frames);
+    for place in &places.all {
+        if let Some(held) = place {
+            fields::write_long(&mut frames[FRAME * n..FRAME * n + FRAME], held.case);
+            n += 1;
+        }
     }
     n
 }
 
-// The number of cases and the columns of their frames, into the area's first bytes.
-pub fn store(places: Places, area: &mut [u8]) -> Storing
-    ensures { Stores (archived (stands_for places)) area.old result area.new }
+// The number of cases and the columns of their frames, into the area's first bytes; how many bytes that is.
+pub fn store(places: &Places, area: &mut [u8]) -> Result<usize, Shortage>
+    ensures { Stores (archived (stands_for places.now)) area.old result area.new }
 {
-    let mut frames = [0u8; 1536];
+    let mut frames = [0; SIZE];
     let n = gather(places, &mut frames);
-    let size = FRAME * n;
-    columns::store(n, &frames[..size], area)
+    columns::store(n, &frames[..FRAME * n], area)
 }

@@ -6,6 +6,7 @@ use native.Mathlib.Omega.{arith}
 use native.Mathlib.Nat.{le_refl}
 use Rattle.exact.specs.Fraction.{of_ratio}
 use Rattle.exact.specs.Formula.{Formula, least}
+use Rattle.std.specs.Prelude.{Option, Some}
 use Rattle.span.specs.declared.Span.{Span}
 use Rattle.span.specs.Spans.{Constant, Smaller}
 use Rattle.span.specs.Enclosing.{Encloses, smaller_encloses, wider}
@@ -21,8 +22,6 @@ use Rattle.waves.specs.EndBounds.{lower_coarser, upper_coarser, constant_lower, 
 use Rattle.waves.specs.Fronts.{Mass, Front}
 use Rattle.waves.specs.Deflagration.{Mach, expansion_of_lem, Deflagrating, DeflagrationPressure, DeflagrationImpulse}
 use Rattle.blast.specs.declared.Flame.{Flame}
-use Rattle.blast.specs.declared.Deflagration.{Deflagration}
-use Rattle.blast.specs.declared.Deflagration.TheVariants as variants
 use Rattle.blast.specs.Windows.{Window, distance_window, deflagration_pressure_window, deflagration_impulse_window, smaller_window}
 use Rattle.blast.specs.Promises.{Enclosure}
 use Rattle.blast.specs.Intermediates.{Seen, MachSpan, DeflagrationSpan, FlameOf, BurningAt, Deflagrated}
@@ -81,8 +80,8 @@ module _ {c : Case} {k : Cloud} {air : ℕ} {x : Span} (s : Seen c k air x) wher
 
 -- A deflagration by its variant
 
-pub told_burning : {air : ℕ} {c : Case} {d : Deflagration} {f : Flame} → Deflagrated air c d → d ≡ variants.Burning f → BurningAt air c f
-told_burning {air} {c} h e = subst (λ (i : Deflagration). Deflagrated air c i) e h
+pub told_burning : {air : ℕ} {c : Case} {d : Option Flame} {f : Flame} → Deflagrated air c d → d ≡ Some f → BurningAt air c f
+told_burning {air} {c} h e = subst (λ (i : Option Flame). Deflagrated air c i) e h
 
 -- Px and Ix of a deflagration
 

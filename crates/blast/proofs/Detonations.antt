@@ -16,20 +16,16 @@ use Rattle.guidance.specs.declared.Cloud.{Cloud}
 use Rattle.guidance.specs.Clouds.{heterogeneous}
 use Rattle.guidance.specs.Distances.{nearer, cube02, cube025}
 use Rattle.guidance.specs.Waves.{number, hundredths, thousandths, reduced_distance, near_field, aerosol_impulse, gas_impulse, detonation_pressure, detonation_impulse}
-use Rattle.guidance.specs.CloudWords.{Placed}
 use Rattle.waves.specs.EndBounds.{lower_coarser, upper_coarser, enclosed_lower, enclosed_upper, constant_lower, constant_upper}
 use Rattle.waves.specs.Detonation.{Distance, AerosolPressure, AerosolImpulse}
 use Rattle.waves.specs.Gas.{LogDistance, GasPressure, GasImpulse}
 use Rattle.blast.specs.declared.Detonation.{Detonation}
 use Rattle.blast.specs.declared.Detonation.TheVariants as variants
 use Rattle.blast.specs.Windows.{detonation_pressure_window, detonation_impulse_window}
-use Rattle.blast.specs.Promises.{Enclosure, Ready}
+use Rattle.blast.specs.Promises.{Enclosure}
 use Rattle.blast.specs.Intermediates.{Seen, Detonated, NearField, HeterogeneousAt, GasAt, near_impulse}
 use Rattle.blast.specs.Distance.{Threshold, distance_between, from_02, from_025}
 use Rattle.blast.proofs.Choices.{chosen, otherwise, constant_enclosure}
-
-pub placed : {c : Case} {k : Cloud} {air : ℕ} → Ready c k air → Placed c k air
-placed h = record { fields = h.accepted.fields; cloud = h.cloud; pressure = h.pressure }
 
 -- The window of Rx where a test fails
 

@@ -7,13 +7,16 @@ use Rattle.span.specs.Spans.{fraction, whole_f, Width, Whole, FractionOf, Divisi
 use Rattle.span.specs.Enclosing.{Encloses, whole_encloses, quotient_encloses, wider, divisor}
 use Rattle.guidance.specs.declared.Case.{Case}
 use Rattle.guidance.specs.declared.Cloud.{Cloud}
+use Rattle.guidance.specs.declared.settings.Setting.{Setting}
+use Rattle.guidance.specs.Cases.{Accepted}
 use Rattle.guidance.specs.Clouds.{energy}
 use Rattle.guidance.specs.Distances.{metres}
 use Rattle.guidance.specs.Waves.{number, reduced_distance}
 use Rattle.guidance.specs.CloudWords.{CloudOf}
 use Rattle.blast.specs.Windows.{energy_window, distance_window}
 use Rattle.blast.specs.Promises.{Enclosure, Ready}
-use Rattle.blast.specs.Intermediates.{Worded, EnergySpan, Rootable, CubeRoot}
+use Rattle.blast.specs.declared.Explosion.{Explosion}
+use Rattle.blast.specs.Intermediates.{Seen, Worded, EnergySpan, Rootable, CubeRoot}
 use Rattle.blast.proofs.Joules.{number_encloses}
 
 pub air_encloses : {air : ℕ} {p : Span} → Whole air p → (n : ℕ) → Encloses p (number (whole air)) n
@@ -23,6 +26,14 @@ air_encloses w n = whole_encloses w n
 metres_encloses : (c : Case) {r : Span} → FractionOf c.distance 100 r → (n : ℕ) → Encloses r (number (metres c)) n
 unfolding metres of_ratio fraction
 metres_encloses c {r} f n = number_encloses (metres c) r (f.holds _) n
+
+-- of an accepted case in a setting
+pub ready : (at : Setting) → Accepted at.air at.case → Ready at.case at.cloud at.air
+ready at a = record { accepted = a; cloud = at.placed.cloud; pressure = at.placed.pressure }
+
+-- of an explosion, with its Rx
+pub seen : (x : Explosion) → Seen x.at.case x.at.cloud x.at.air x.distance
+seen x = record { ready = ready x.at x.accepted; distance = x.reduced }
 
 pub worded : {c : Case} {k : Cloud} → CloudOf c k → Worded k
 worded h = record { joules = h.joules; parts = h.parts; parts_most = h.parts_most }

@@ -1,5 +1,5 @@
 -- What the functions of the crate ask of the intermediate values, and promise each other of them: E, roots, Rx, what a detonation and a deflagration take.
-use Rattle.std.specs.Prelude.{ℕ, ◌+◌, ◌*◌, ◌≤◌, ◌<◌, ◌≡◌, true, false, cond, eqb}
+use Rattle.std.specs.Prelude.{ℕ, ◌+◌, ◌*◌, ◌≤◌, ◌<◌, ◌≡◌, true, false, cond, eqb, Option, Some, None}
 use Rattle.exact.specs.Fraction.{whole}
 use Rattle.exact.specs.Formula.{Formula, ln}
 use Rattle.span.specs.declared.Span.{Span}
@@ -20,12 +20,11 @@ use Rattle.guidance.specs.Waves.{number, hundredths, thousandths, gas_impulse, r
 use Rattle.blast.specs.declared.Detonation.{Detonation}
 use Rattle.blast.specs.declared.Detonation.TheVariants as variants
 use Rattle.blast.specs.declared.Flame.{Flame}
-use Rattle.blast.specs.declared.Deflagration.{Deflagration}
-use Rattle.blast.specs.declared.Deflagration.TheVariants as burning
 use Rattle.blast.specs.declared.Common.{Common}
 use Rattle.blast.specs.declared.Scale.{Scale}
+use Rattle.blast.specs.declared.Wave.{Wave}
 use Rattle.blast.specs.Windows.{Window, energy_window, air_power_window, energy_root_window, distance_window, reduced_pressure_window, reduced_impulse_window}
-use Rattle.blast.specs.Promises.{Enclosure, Ready, PressureSpan, ImpulseSpan}
+use Rattle.blast.specs.Promises.{Enclosure, Ready, PressureSpan, ImpulseSpan, WaveAround}
 
 -- words that a cloud may have
 pub record Worded (k : Cloud) : Type 0 where
@@ -110,9 +109,9 @@ pub record BurningAt (air : ℕ) (c : Case) (f : Flame) : Type 0 where
   pub burns : deflagrates c ≡ true
   pub flame : FlameOf air c f
 
-abbrev pub Deflagrated : (air : ℕ) (c : Case) → Deflagration → Type 0
-Deflagrated air c burning.Absent = deflagrates c ≡ false
-Deflagrated air c (burning.Burning f) = BurningAt air c f
+abbrev pub Deflagrated : (air : ℕ) (c : Case) → Option Flame → Type 0
+Deflagrated air c None = deflagrates c ≡ false
+Deflagrated air c (Some f) = BurningAt air c f
 
 -- what both figures are worked from
 pub record CommonOf (air : ℕ) (c : Case) (s : Common) : Type 0 where
@@ -146,3 +145,7 @@ pub record Pascals (air : ℕ) (px s : Span) : Type 0 where
 
 pub record PascalSeconds (air : ℕ) (c : Case) (ix s : Span) : Type 0 where
   pub value : (x : Formula) → Enclosure x reduced_impulse_window ix → ImpulseSpan (in_pascal_seconds air c x) s
+
+-- both at once
+pub record Scaled (air : ℕ) (c : Case) (px ix : Span) (w : Wave) : Type 0 where
+  pub wave : (x y : Formula) → Enclosure x reduced_pressure_window px → Enclosure y reduced_impulse_window ix → WaveAround (in_pascals air x) (in_pascal_seconds air c y) w

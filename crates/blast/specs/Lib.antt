@@ -1,5 +1,6 @@
 pub mod WaveEnds
 pub mod Promises
+pub mod OneProof
 pub mod Intermediates
 pub mod Distance
 pub mod Windows

@@ -19,7 +19,7 @@ use Rattle.blast.specs.declared.Wave.{Wave}
 use Rattle.blast.specs.declared.Figures.{Figures}
 use Rattle.blast.specs.Windows.{Window, pressure_window, impulse_window}
 use Rattle.blast.specs.WaveEnds.{Closed}
-use Rattle.layout.specs.declared.Ends.{Ends}
+use Rattle.layout.specs.declared.Interval.{Interval}
 
 -- s contains the N-th bracket of x for every N from `enough` on, and lies in the window w
 pub record Enclosure (x : Formula) (w : Window) (s : Span) : Type 0 where
@@ -66,7 +66,7 @@ pub record FiguresOf (air : ℕ) (c : Case) (f : Figures) : Type 0 where
   pub detonation : DetonationWave air c f.detonation
 
 -- whole numbers around the value of x, closed by the width rule and below `top`
-pub record Ended (x : Formula) (top : ℕ) (e : Ends) : Type 0 where
+pub record Ended (x : Formula) (top : ℕ) (e : Interval ℕ) : Type 0 where
   pub holds : Holds (wholes e.lower e.upper) x
   pub meet : AnyTwoMeet x
   pub closed : Closed e.lower e.upper
@@ -76,6 +76,6 @@ pub record Roundable (s : Span) : Type 0 where
   pub normal : Normal s
   pub most : s.e ≤ 1024
 
-pub record Rounded (s : Span) (e : Ends) : Type 0 where
+pub record Rounded (s : Span) (e : Interval ℕ) : Type 0 where
   pub lower : Floor s e.lower
   pub upper : Ceiling s e.upper

@@ -2,17 +2,28 @@
 // Branches are taken by the exact tests of `guidance` alone; each function follows its formula operation by operation.
 #![tactic(auto)]
 
-ghost use Rattle.std.specs.Prelude.{◌^◌, ◌<◌};
+ghost use Rattle.std.specs.Prelude.{◌≡◌, ◌^◌, ◌<◌};
 ghost use Rattle.guidance.specs.Cases.{Air, Accepted};
 ghost use Rattle.guidance.specs.Waves.{reduced_distance, detonation_pressure, detonation_impulse, reduced_pressure, reduced_impulse, overpressure, impulse};
+ghost use Rattle.waves.specs.Deflagration.{Deflagrating, DeflagrationPressure, DeflagrationImpulse};
 ghost use Rattle.blast.specs.Windows.{distance_window, detonation_pressure_window, detonation_impulse_window, reduced_pressure_window, reduced_impulse_window};
-ghost use Rattle.blast.specs.Promises.{Enclosure, Ready, WaveOf, FiguresOf, DeflagrationWave, DetonationWave, Ended, Roundable, Rounded};
-ghost use Rattle.blast.specs.Intermediates.{Seen, Detonated, FlameOf, Deflagrated, CommonOf, Worded, EnergySpan, Rootable, CubeRoot, AirPower, MachSpan, DeflagrationSpan, near_impulse, ScaleOf, EnclosesSome, Pascals, PascalSeconds};
+ghost use Rattle.blast.specs.Promises.{Enclosure, WaveOf, FiguresOf, Ended, Roundable, Rounded};
+ghost use Rattle.blast.specs.OneProof.{enclosure_prop};
+ghost use Rattle.blast.specs.Intermediates.{Detonated, FlameOf, Deflagrated, CommonOf, Worded, EnergySpan, Rootable, CubeRoot, AirPower, MachSpan, DeflagrationSpan, near_impulse, ScaleOf, EnclosesSome, Pascals, PascalSeconds, Scaled};
 
 use fixed::Log;
-use guidance::{Case, Cloud};
+use guidance::{Case, Cloud, Setting};
 use layout::Ends;
 use span::Span;
+
+// An accepted case in its setting, and its Rx, by which the formulas of the wave are taken.
+#[derive(Clone, Copy)]
+pub struct Explosion {
+    pub at: Setting,
+    distance: Span,
+    pub ghost accepted: { Accepted at.air at.case },
+    ghost reduced: { Enclosure (reduced_distance at.air at.case) distance_window distance } by { enclosure_prop _ _ _ },
+}
 
 // ΔP and I as intervals.
 #[derive(Clone, Copy)]
@@ -26,6 +37,36 @@ pub struct Wave {
 pub struct Figures {
     pub deflagration: Wave,
     pub detonation: Wave,
+}
+
+// What a detonation formula takes: the state in the near field, a number as the case has it, Rx of a heterogeneous cloud, ln Rx of a gas.
+#[derive(Clone, Copy)]
+enum Detonation {
+    Near(u64),
+    Heterogeneous(Span),
+    Gas(Log),
+}
+
+// What the deflagration formulas take: w, g and R.
+#[derive(Clone, Copy)]
+struct Flame {
+    mach: Span,
+    expansion: Span,
+    distance: Span,
+}
+
+// What overpressure and impulse of a case are both worked from. Range 1 has no deflagration.
+#[derive(Clone, Copy)]
+struct Common {
+    detonation: Detonation,
+    deflagration: Option<Flame>,
+}
+
+// What Ix is multiplied by: P0^(2/3) and E^(1/3).
+#[derive(Clone, Copy)]
+struct Scale {
+    power: Span,
+    root: Span,
 }
 
 // 3/4.
@@ -104,81 +145,15 @@ fn air_power(air: u64) -> Span
 }
 
 // Rx = r/(E/P0)^(1/3), at any distance.
-fn reduced_distance(c: Case, k: Cloud, air: u64) -> Span
-    requires { Ready c k air }
-    ensures { Enclosure (reduced_distance air c) distance_window result }
+fn reduced_distance(at: &Setting) -> Span
+    requires { Accepted at.now.air at.now.case }
+    ensures { Enclosure (reduced_distance at.now.air at.now.case) distance_window result }
 {
-    let joules = energy(k);
-    let share = span::quo_whole(joules, air, guidance::STANDARD_AIR);
+    let joules = energy(at.cloud);
+    let share = span::quo_whole(joules, at.air, guidance::STANDARD_AIR);
     let root = cube_root(share);
-    let metres = span::fraction(c.distance, 100);
+    let metres = span::fraction(at.case.distance, 100);
     span::quo(metres, root)
-}
-
-// What a detonation formula takes: the state in the near field, Rx of a heterogeneous cloud, ln Rx of a gas.
-#[derive(Clone, Copy)]
-enum Detonation {
-    Near(u64),
-    Heterogeneous(Span),
-    Gas(Log),
-}
-
-// What the deflagration formulas take: w, g and R.
-#[derive(Clone, Copy)]
-struct Flame {
-    mach: Span,
-    expansion: Span,
-    distance: Span,
-}
-
-// The deflagration of ranges 2 to 6; range 1 has none.
-#[derive(Clone, Copy)]
-enum Deflagration {
-    Absent,
-    Burning(Flame),
-}
-
-// What overpressure and impulse of a case are both worked from.
-#[derive(Clone, Copy)]
-struct Common {
-    detonation: Detonation,
-    deflagration: Deflagration,
-}
-
-// What Ix is multiplied by: P0^(2/3) and E^(1/3).
-#[derive(Clone, Copy)]
-struct Scale {
-    power: Span,
-    root: Span,
-}
-
-// The near field and the state choose the formula; ln Rx serves both figures of a gas.
-fn detonation_of(c: Case, k: Cloud, air: u64, x: Span) -> Detonation
-    requires { Seen c k air x }
-    ensures { Detonated air c result }
-{
-    let near = guidance::is_near_field(c, k, air);
-    if near {
-        return Detonation::Near(c.state);
-    }
-    if c.state == 1 {
-        Detonation::Heterogeneous(x)
-    } else {
-        let l = waves::log_distance(x);
-        Detonation::Gas(l)
-    }
-}
-
-// Px of a detonation.
-fn detonation_pressure(c: Case, air: u64, d: Detonation) -> Span
-    requires { Detonated air c d }
-    ensures { Enclosure (detonation_pressure air c) detonation_pressure_window result }
-{
-    match d {
-        Detonation::Near(_) => EIGHTEEN,
-        Detonation::Heterogeneous(x) => waves::aerosol_pressure(x),
-        Detonation::Gas(l) => waves::gas_pressure(l),
-    }
 }
 
 // Ix of the near field.
@@ -193,193 +168,240 @@ fn near_impulse(state: u64) -> Span
     }
 }
 
-// Ix of a detonation.
-fn detonation_impulse(c: Case, air: u64, d: Detonation) -> Span
-    requires { Detonated air c d }
-    ensures { Enclosure (detonation_impulse air c) detonation_impulse_window result }
-{
-    match d {
-        Detonation::Near(state) => near_impulse(state),
-        Detonation::Heterogeneous(x) => waves::aerosol_impulse(x),
-        Detonation::Gas(l) => waves::gas_impulse(l),
+impl Flame {
+    // Px of a deflagration.
+    fn pressure(self) -> Span
+        requires { Deflagrating self.mach self.expansion self.distance }
+        ensures { DeflagrationPressure self.mach self.expansion self.distance result }
+    {
+        waves::deflagration_pressure(self.mach, self.expansion, self.distance)
+    }
+
+    // Ix of a deflagration.
+    fn impulse(self) -> Span
+        requires { Deflagrating self.mach self.expansion self.distance }
+        ensures { DeflagrationImpulse self.mach self.expansion self.distance result }
+    {
+        waves::deflagration_impulse(self.mach, self.expansion, self.distance)
     }
 }
 
-// w = V/C0.
-fn mach_number(c: Case, k: Cloud, air: u64) -> Span
-    requires { Ready c k air }
-    ensures { MachSpan c result }
-{
-    let v = waves::front_speed(k.range, c.mass);
-    waves::mach(v)
-}
-
-// R of the deflagration formulas.
-fn deflagration_distance(c: Case, k: Cloud, air: u64, x: Span) -> Span
-    requires { Seen c k air x }
-    ensures { DeflagrationSpan air c result }
-{
-    let under = guidance::is_under_034(c, k, air);
-    if under { NEAREST } else { x }
-}
-
-// w, g and R of a case.
-fn flame_of(c: Case, k: Cloud, air: u64, x: Span) -> Flame
-    requires { Seen c k air x }
-    ensures { FlameOf air c result }
-{
-    let mach = mach_number(c, k, air);
-    let expansion = waves::expansion(c.state);
-    let distance = deflagration_distance(c, k, air, x);
-    Flame {
-        mach,
-        expansion,
-        distance,
+impl Explosion {
+    // The explosion of an accepted case.
+    pub fn of(at: Setting) -> Explosion
+        requires { Accepted at.air at.case }
+        ensures { result.at ≡ at }
+    {
+        let distance = reduced_distance(&at);
+        Explosion { at, distance }
     }
-}
 
-// Ranges 2 to 6 deflagrate.
-fn deflagration_of(c: Case, k: Cloud, air: u64, x: Span) -> Deflagration
-    requires { Seen c k air x }
-    ensures { Deflagrated air c result }
-{
-    if k.range < 2 {
-        return Deflagration::Absent;
-    }
-    let f = flame_of(c, k, air, x);
-    Deflagration::Burning(f)
-}
-
-// What both figures are worked from, each part once.
-fn common_of(c: Case, k: Cloud, air: u64) -> Common
-    requires { Ready c k air }
-    ensures { CommonOf air c result }
-{
-    let x = reduced_distance(c, k, air);
-    let deflagration = deflagration_of(c, k, air, x);
-    let detonation = detonation_of(c, k, air, x);
-    Common {
-        detonation,
-        deflagration,
-    }
-}
-
-// Px: in ranges 2 to 6 the smaller of the two.
-fn reduced_pressure(c: Case, air: u64, s: Common) -> Span
-    requires { CommonOf air c s }
-    ensures { Enclosure (reduced_pressure air c) reduced_pressure_window result }
-{
-    let detonation = s.detonation;
-    let d = detonation_pressure(c, air, detonation);
-    let deflagration = s.deflagration;
-    match deflagration {
-        Deflagration::Absent => d,
-        Deflagration::Burning(f) => {
-            let p = waves::deflagration_pressure(f.mach, f.expansion, f.distance);
-            span::lesser(p, d)
+    // The near field and the state choose the formula; ln Rx serves both figures of a gas.
+    fn detonation(&self) -> Detonation
+        ensures { Detonated self.now.at.air self.now.at.case result }
+    {
+        let near = self.at.is_near_field();
+        if near {
+            return Detonation::Near(self.at.case.state);
+        }
+        if self.at.case.state == 1 {
+            Detonation::Heterogeneous(self.distance)
+        } else {
+            let l = waves::log_distance(self.distance);
+            Detonation::Gas(l)
         }
     }
-}
 
-// Ix: in ranges 2 to 6 the smaller of the two.
-fn reduced_impulse(c: Case, air: u64, s: Common) -> Span
-    requires { CommonOf air c s }
-    ensures { Enclosure (reduced_impulse air c) reduced_impulse_window result }
-{
-    let detonation = s.detonation;
-    let d = detonation_impulse(c, air, detonation);
-    let deflagration = s.deflagration;
-    match deflagration {
-        Deflagration::Absent => d,
-        Deflagration::Burning(f) => {
-            let i = waves::deflagration_impulse(f.mach, f.expansion, f.distance);
-            span::lesser(i, d)
+    // Px of a detonation.
+    fn detonation_pressure(&self, d: Detonation) -> Span
+        requires { Detonated self.now.at.air self.now.at.case d }
+        ensures { Enclosure (detonation_pressure self.now.at.air self.now.at.case) detonation_pressure_window result }
+    {
+        match d {
+            Detonation::Near(_) => EIGHTEEN,
+            Detonation::Heterogeneous(x) => waves::aerosol_pressure(x),
+            Detonation::Gas(l) => waves::gas_pressure(l),
         }
     }
-}
 
-// Px in Pa: Px·P0.
-fn pascals(air: u64, px: Span) -> Span
-    requires { (Air air) × (EnclosesSome reduced_pressure_window px) }
-    ensures { Pascals air px result }
-{
-    let p = span::whole(air);
-    span::mul(px, p)
-}
+    // Ix of a detonation, by other formulas than Px, arm for arm.
+    fn detonation_impulse(&self, d: Detonation) -> Span
+        requires { Detonated self.now.at.air self.now.at.case d }
+        ensures { Enclosure (detonation_impulse self.now.at.air self.now.at.case) detonation_impulse_window result }
+    {
+        match d {
+            Detonation::Near(state) => near_impulse(state),
+            Detonation::Heterogeneous(x) => waves::aerosol_impulse(x),
+            Detonation::Gas(l) => waves::gas_impulse(l),
+        }
+    }
 
-// P0^(2/3) and E^(1/3).
-fn scale_of(c: Case, k: Cloud, air: u64) -> Scale
-    requires { Ready c k air }
-    ensures { ScaleOf air c result }
-{
-    let power = air_power(air);
-    let joules = energy(k);
-    let root = cube_root(joules);
-    Scale { power, root }
-}
+    // w = V/C0.
+    fn mach_number(&self) -> Span
+        ensures { MachSpan self.now.at.case result }
+    {
+        let v = waves::front_speed(self.at.cloud.range, self.at.case.mass);
+        waves::mach(v)
+    }
 
-// Ix in Pa·s: Ix·P0^(2/3)·E^(1/3)/C0.
-fn pascal_seconds(c: Case, air: u64, s: Scale, ix: Span) -> Span
-    requires { (ScaleOf air c s) × (EnclosesSome reduced_impulse_window ix) }
-    ensures { PascalSeconds air c ix result }
-{
-    let share = span::mul(ix, s.power);
-    let all = span::mul(share, s.root);
-    span::quo(all, waves::coefficients::SOUND)
-}
+    // R of the deflagration formulas.
+    fn deflagration_distance(&self) -> Span
+        ensures { DeflagrationSpan self.now.at.air self.now.at.case result }
+    {
+        let under = self.at.is_under_034();
+        if under { NEAREST } else { self.distance }
+    }
 
-// ΔP and I of an accepted case, in Pa and Pa·s.
-pub fn wave_of(c: Case, k: Cloud, air: u64) -> Wave
-    requires { Ready c k air }
-    ensures { WaveOf air c result }
-{
-    let m = common_of(c, k, air);
-    let px = reduced_pressure(c, air, m);
-    let pressure = pascals(air, px);
-    let ix = reduced_impulse(c, air, m);
-    let s = scale_of(c, k, air);
-    let impulse = pascal_seconds(c, air, s, ix);
-    Wave { pressure, impulse }
-}
+    // w, g and R of a case.
+    fn flame(&self) -> Flame
+        ensures { FlameOf self.now.at.air self.now.at.case result }
+    {
+        Flame {
+            mach: self.mach_number(),
+            expansion: waves::expansion(self.at.case.state),
+            distance: self.deflagration_distance(),
+        }
+    }
 
-// ΔP and I by deflagration.
-fn deflagration_wave(c: Case, air: u64, s: Scale, f: Flame) -> Wave
-    requires { (Air air) × (ScaleOf air c s) × (FlameOf air c f) }
-    ensures { DeflagrationWave air c result }
-{
-    let px = waves::deflagration_pressure(f.mach, f.expansion, f.distance);
-    let pressure = pascals(air, px);
-    let ix = waves::deflagration_impulse(f.mach, f.expansion, f.distance);
-    let impulse = pascal_seconds(c, air, s, ix);
-    Wave { pressure, impulse }
-}
+    // Ranges 2 to 6 deflagrate.
+    fn deflagration(&self) -> Option<Flame>
+        ensures { Deflagrated self.now.at.air self.now.at.case result }
+    {
+        if self.at.cloud.range < 2 {
+            None
+        } else {
+            Some(self.flame())
+        }
+    }
 
-// ΔP and I by detonation.
-fn detonation_wave(c: Case, air: u64, s: Scale, d: Detonation) -> Wave
-    requires { (Air air) × (ScaleOf air c s) × (Detonated air c d) }
-    ensures { DetonationWave air c result }
-{
-    let px = detonation_pressure(c, air, d);
-    let pressure = pascals(air, px);
-    let ix = detonation_impulse(c, air, d);
-    let impulse = pascal_seconds(c, air, s, ix);
-    Wave { pressure, impulse }
-}
+    // What both figures are worked from, each part once.
+    fn common(&self) -> Common
+        ensures { CommonOf self.now.at.air self.now.at.case result }
+    {
+        Common {
+            detonation: self.detonation(),
+            deflagration: self.deflagration(),
+        }
+    }
 
-// ΔP and I by either rule, before the smaller is taken.
-pub fn figures_of(c: Case, k: Cloud, air: u64) -> Figures
-    requires { Ready c k air }
-    ensures { FiguresOf air c result }
-{
-    let x = reduced_distance(c, k, air);
-    let s = scale_of(c, k, air);
-    let f = flame_of(c, k, air, x);
-    let deflagration = deflagration_wave(c, air, s, f);
-    let d = detonation_of(c, k, air, x);
-    let detonation = detonation_wave(c, air, s, d);
-    Figures {
-        deflagration,
-        detonation,
+    // Px: in ranges 2 to 6 the smaller of the two.
+    fn reduced_pressure(&self, m: Common) -> Span
+        requires { CommonOf self.now.at.air self.now.at.case m }
+        ensures { Enclosure (reduced_pressure self.now.at.air self.now.at.case) reduced_pressure_window result }
+    {
+        let d = self.detonation_pressure(m.detonation);
+        match m.deflagration {
+            None => d,
+            Some(f) => {
+                let p = f.pressure();
+                span::lesser(p, d)
+            }
+        }
+    }
+
+    // Ix: in ranges 2 to 6 the smaller of the two. One function for Px and Ix would be handed each call of the body and each formula of the promise.
+    fn reduced_impulse(&self, m: Common) -> Span
+        requires { CommonOf self.now.at.air self.now.at.case m }
+        ensures { Enclosure (reduced_impulse self.now.at.air self.now.at.case) reduced_impulse_window result }
+    {
+        let d = self.detonation_impulse(m.detonation);
+        match m.deflagration {
+            None => d,
+            Some(f) => {
+                let i = f.impulse();
+                span::lesser(i, d)
+            }
+        }
+    }
+
+    // Px in Pa: Px·P0. Px and Ix come as plain spans, as the formulas of `waves` give them; that they are some accepted case's is asked.
+    fn pascals(&self, px: Span) -> Span
+        requires { EnclosesSome reduced_pressure_window px }
+        ensures { Pascals self.now.at.air px result }
+    {
+        let p = span::whole(self.at.air);
+        span::mul(px, p)
+    }
+
+    // P0^(2/3) and E^(1/3).
+    fn scale(&self) -> Scale
+        ensures { ScaleOf self.now.at.air self.now.at.case result }
+    {
+        let power = air_power(self.at.air);
+        let joules = energy(self.at.cloud);
+        let root = cube_root(joules);
+        Scale { power, root }
+    }
+
+    // Ix in Pa·s: Ix·P0^(2/3)·E^(1/3)/C0.
+    fn pascal_seconds(&self, s: Scale, ix: Span) -> Span
+        requires { (ScaleOf self.now.at.air self.now.at.case s) × (EnclosesSome reduced_impulse_window ix) }
+        ensures { PascalSeconds self.now.at.air self.now.at.case ix result }
+    {
+        let share = span::mul(ix, s.power);
+        let all = span::mul(share, s.root);
+        span::quo(all, waves::coefficients::SOUND)
+    }
+
+    // Px and Ix, of either rule or the smaller, in Pa and Pa·s.
+    fn scaled(&self, s: Scale, px: Span, ix: Span) -> Wave
+        requires { (ScaleOf self.now.at.air self.now.at.case s) × (EnclosesSome reduced_pressure_window px) × (EnclosesSome reduced_impulse_window ix) }
+        ensures { Scaled self.now.at.air self.now.at.case px ix result }
+    {
+        let pressure = self.pascals(px);
+        let impulse = self.pascal_seconds(s, ix);
+        Wave { pressure, impulse }
+    }
+
+    // ΔP and I, in Pa and Pa·s.
+    pub fn wave(&self) -> Wave
+        ensures { WaveOf self.now.at.air self.now.at.case result }
+    {
+        let m = self.common();
+        let px = self.reduced_pressure(m);
+        let ix = self.reduced_impulse(m);
+        let s = self.scale();
+        self.scaled(s, px, ix)
+    }
+
+    // ΔP in whole pascals, without the work of the impulse.
+    pub fn pressure(&self) -> Ends
+        ensures { Ended (overpressure self.now.at.air self.now.at.case) (2 ^ 24) result }
+    {
+        let m = self.common();
+        let px = self.reduced_pressure(m);
+        let p = self.pascals(px);
+        ends(p)
+    }
+
+    // I in whole pascal-seconds, without the work of the overpressure.
+    pub fn impulse(&self) -> Ends
+        ensures { Ended (impulse self.now.at.air self.now.at.case) (2 ^ 24) result }
+    {
+        let m = self.common();
+        let ix = self.reduced_impulse(m);
+        let s = self.scale();
+        let i = self.pascal_seconds(s, ix);
+        ends(i)
+    }
+
+    // ΔP and I by either rule, before the smaller is taken.
+    pub fn figures(&self) -> Figures
+        ensures { FiguresOf self.now.at.air self.now.at.case result }
+    {
+        let s = self.scale();
+        let f = self.flame();
+        let fp = f.pressure();
+        let fi = f.impulse();
+        let deflagration = self.scaled(s, fp, fi);
+        let d = self.detonation();
+        let dp = self.detonation_pressure(d);
+        let di = self.detonation_impulse(d);
+        let detonation = self.scaled(s, dp, di);
+        Figures {
+            deflagration,
+            detonation,
+        }
     }
 }
 
@@ -393,27 +415,20 @@ pub fn ends(s: Span) -> Ends
     Ends { lower, upper }
 }
 
-// ΔP of an accepted case in whole pascals, without the work of the impulse.
+// ΔP of an accepted case in whole pascals, for a caller that wants no more of it.
 pub fn pressure(c: Case, air: u64) -> Ends
     requires { (Accepted air c) × (Air air) }
     ensures { Ended (overpressure air c) (2 ^ 24) result }
 {
-    let k = guidance::cloud_of(c);
-    let m = common_of(c, k, air);
-    let px = reduced_pressure(c, air, m);
-    let p = pascals(air, px);
-    ends(p)
+    let at = Setting::of(c, air);
+    Explosion::of(at).pressure()
 }
 
-// I of an accepted case in whole pascal-seconds, without the work of the overpressure.
+// I of an accepted case in whole pascal-seconds, for a caller that wants no more of it.
 pub fn impulse(c: Case, air: u64) -> Ends
     requires { (Accepted air c) × (Air air) }
     ensures { Ended (impulse air c) (2 ^ 24) result }
 {
-    let k = guidance::cloud_of(c);
-    let m = common_of(c, k, air);
-    let ix = reduced_impulse(c, air, m);
-    let s = scale_of(c, k, air);
-    let i = pascal_seconds(c, air, s, ix);
-    ends(i)
+    let at = Setting::of(c, air);
+    Explosion::of(at).impulse()
 }

@@ -2,81 +2,65 @@
 #![tactic(auto)]
 
 ghost use Rattle.std.specs.Prelude.{◌≡◌, ◌*◌, ◌<◌, length};
-ghost use Rattle.refusals.specs.Faults.{filled};
 ghost use Rattle.columns.specs.Transposed.{column, transposed};
-ghost use Rattle.columns.specs.Refusals.{number, word, code, storing_code};
+ghost use Rattle.columns.specs.Refusals.{number, word, told, shortage_number, shortage_word, shortage_told};
 ghost use Rattle.columns.specs.Stored.{Frames, stored, Stores, Restores};
 
-// The bytes of a frame, and the most frames.
-const FRAME: usize = 24;
+use refusals::Reason;
 
-const FRAMES: usize = 64;
+// The bytes of a frame, and the most frames.
+pub const FRAME: usize = 24;
+
+pub const FRAMES: usize = 64;
 
 // Why stored bytes are not turned back, in the order of the tests: 20, then 8.
-#[derive(Clone, Copy)]
+#[derive(Clone, Copy, Debug, PartialEq, Eq)]
 pub enum Refusal {
     // they are empty, or their number of frames or their length is wrong
     Columns,
     Space,
 }
 
-// What becomes of frames that are to be stored: how many bytes were written, or 8, the only refusal.
-#[derive(Clone, Copy)]
-pub enum Storing {
-    Written(usize),
-    Space,
-}
+// The only reason for which frames are not stored, 8: the area is shorter than their columns.
+#[derive(Clone, Copy, Debug, PartialEq, Eq)]
+pub struct Shortage;
 
-// What becomes of stored bytes that are to be turned back.
-#[derive(Clone, Copy)]
-pub enum Restoring {
-    Written(usize),
-    Refused(Refusal),
-}
+impl Reason for Refusal {
+    ghost number_told = { number };
 
-pub fn number_of(r: Refusal) -> u64
-    ensures { result ≡ number r }
-{
-    match r {
-        Refusal::Columns => 20,
-        Refusal::Space => 8,
+    ghost word_told = { word };
+
+    ghost tells = { told };
+
+    fn number(self) -> u64 {
+        match self {
+            Refusal::Columns => 20,
+            Refusal::Space => 8,
+        }
+    }
+
+    fn word(self) -> [u8; 12] {
+        match self {
+            Refusal::Columns => *b"columns\0\0\0\0\0",
+            Refusal::Space => *b"space\0\0\0\0\0\0\0",
+        }
     }
 }
 
-// The refusal's word, filled with zeros to 12 bytes.
-pub fn word_of(r: Refusal) -> [u8; 12]
-    ensures { result ≡ filled (word r) }
-{
-    match r {
-        Refusal::Columns => *b"columns\0\0\0\0\0",
-        Refusal::Space => *b"space\0\0\0\0\0\0\0",
-    }
-}
+impl Reason for Shortage {
+    ghost number_told = { shortage_number };
 
-// 0 where bytes were turned back, else the number of the refusal.
-pub fn code_of(v: Restoring) -> u64
-    ensures { result ≡ code v }
-{
-    match v {
-        Restoring::Written(_) => 0,
-        Restoring::Refused(r) => number_of(r),
-    }
-}
+    ghost word_told = { shortage_word };
 
-// The same of frames that are stored.
-pub fn code_of_storing(v: Storing) -> u64
-    ensures { result ≡ storing_code v }
-{
-    match v {
-        Storing::Written(_) => 0,
-        Storing::Space => 8,
-    }
-}
+    ghost tells = { shortage_told };
 
-fn wide(b: u8) -> usize
-    ensures { result ≡ b }
-{
-    b as usize
+    fn number(self) -> u64 {
+        Refusal::Space.number()
+    }
+
+    fn word(self) -> [u8; 12] {
+        Refusal::Space.word()
+    }
 }
 
 // One column: a byte of each row.
@@ -84,10 +68,9 @@ fn put_column(from: &[u8], start: usize, width: usize, to: &mut [u8])
     requires { (start < width) × (length from.now ≡ length to.old * width) }
     ensures { to.new ≡ column (length to.old) start width from.now }
 {
-    let mut at = start;
-    for i in 0..to.len() {
-        to[i] = from[at];
-        at += width;
+    // by place, as the promise has it
+    for (row, byte) in to.iter_mut().enumerate() {
+        *byte = from[start + row * width];
     }
 }
 
@@ -96,45 +79,41 @@ fn transpose(rows: usize, width: usize, from: &[u8], to: &mut [u8])
     requires { (length from.now ≡ rows * width) × (length to.old ≡ width * rows) }
     ensures { to.new ≡ transposed rows width from.now }
 {
-    let mut at = 0;
+    // by number: rows may be none, and of what is written through `chunks_exact_mut` no more is known than its length
     for j in 0..width {
-        put_column(from, j, width, &mut to[at..at + rows]);
-        at += rows;
+        put_column(from, j, width, &mut to[j * rows..(j + 1) * rows]);
     }
 }
 
-// The number of frames and their columns, into the area's first bytes.
-pub fn store(n: usize, frames: &[u8], area: &mut [u8]) -> Storing
+// The number of frames and their columns, into the area's first bytes; how many bytes that is.
+pub fn store(n: usize, frames: &[u8], area: &mut [u8]) -> Result<usize, Shortage>
     requires { Frames n frames.now }
     ensures { Stores (stored n frames.now) area.old result area.new }
 {
     let size = 1 + FRAME * n;
     if area.len() < size {
-        return Storing::Space;
+        return Err(Shortage);
     }
     area[0] = n as u8;
     transpose(n, FRAME, frames, &mut area[1..size]);
-    Storing::Written(size)
+    Ok(size)
 }
 
-// The frames of stored columns, 24 bytes each, into the area's first bytes.
-pub fn restore(from: &[u8], area: &mut [u8]) -> Restoring
+// The frames of stored columns, 24 bytes each, into the area's first bytes; how many bytes that is.
+pub fn restore(from: &[u8], area: &mut [u8]) -> Result<usize, Refusal>
     ensures { Restores from.now area.old result area.new }
 {
-    if from.len() == 0 {
-        return Restoring::Refused(Refusal::Columns);
-    }
-    let n = wide(from[0]);
-    if FRAMES < n {
-        return Restoring::Refused(Refusal::Columns);
-    }
+    let Some((count, columns)) = from.split_first() else {
+        return Err(Refusal::Columns);
+    };
+    let n = usize::from(*count);
     let size = FRAME * n;
-    if from.len() != 1 + size {
-        return Restoring::Refused(Refusal::Columns);
+    if FRAMES < n || columns.len() != size {
+        return Err(Refusal::Columns);
     }
     if area.len() < size {
-        return Restoring::Refused(Refusal::Space);
+        return Err(Refusal::Space);
     }
-    transpose(FRAME, n, &from[1..], &mut area[..size]);
-    Restoring::Written(size)
+    transpose(FRAME, n, columns, &mut area[..size]);
+    Ok(size)
 }

@@ -6,12 +6,13 @@ ghost use Rattle.std.specs.Float.{binary64};
 ghost use Rattle.std.specs.Float.Ieee.{of_bits};
 ghost use Rattle.doubles.specs.Doubles.{unusable, rounded, nearest};
 
-// The double of 64 bits. The language makes none of a NaN's bits, so all of those become one.
+// The double of 64 bits. The language makes none of a NaN's bits, so all of those become one: a constant, since the library's
+// `f64_from_bits_with_nan` divides for it, which a caller that traps invalid operations would see.
 pub fn of_bits(bits: u64) -> f64
     ensures { result ≡ of_bits binary64 bits }
 {
     if 0x7ff0_0000_0000_0000 < (bits & 0x7fff_ffff_ffff_ffff) {
-        0.0 / 0.0
+        f64::NAN
     } else {
         f64::from_bits(bits)
     }
@@ -21,13 +22,7 @@ pub fn of_bits(bits: u64) -> f64
 pub fn is_unusable(x: f64) -> bool
     ensures { result ≡ unusable x }
 {
-    if x != x {
-        return true;
-    }
-    if x < 0.0 {
-        return true;
-    }
-    1000000000.0 < x
+    x.is_nan() || x < 0.0 || 1000000000.0 < x
 }
 
 // x times the scale, rounded to a whole number, halves upward.

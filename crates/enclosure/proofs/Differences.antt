@@ -1,6 +1,6 @@
 -- Differences of signed numbers that are from 0 up. Assumes nothing.
 use mathlib.Core.Path.{◌≡◌, ap}
-use Prim.Native.Nat.{ℕ, suc, ◌+◌}
+use Prim.Native.Nat.{ℕ, ◌+◌}
 use native.Mathlib.Omega.{arith}
 use lib.IntN.{ℤ, pos, negsuc, ◌-ℤ◌}
 use Rattle.fixed.specs.Logs.{up, dn}
@@ -12,7 +12,3 @@ exactly (negsuc n) d h = absurd (omega arith)
 
 pub difference : (x y : ℤ) (d : ℕ) → up x + dn y ≡ up y + dn x + d → x -ℤ y ≡ pos d
 difference x y d h = exactly (x -ℤ y) d (omega (arith, minus_parts x y))
-
--- 0 - x
-pub opposite : (a : ℕ) → pos 0 -ℤ negsuc a ≡ pos (suc a)
-opposite a = difference (pos 0) (negsuc a) (suc a) (omega arith)

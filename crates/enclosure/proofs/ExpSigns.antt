@@ -1,5 +1,5 @@
 -- From the bounds of e^y, y from 0 up, to the N-th ends at y and at -y. Assumes nothing.
-use mathlib.Core.Path.{◌≡◌, refl}
+use mathlib.Core.Path.{◌≡◌}
 use Prim.Native.Nat.{ℕ, ◌+◌, ◌*◌, ◌-◌, ◌^◌, ◌≤◌, ◌<◌}
 use native.Mathlib.Nat.{mul-pos}
 use native.Mathlib.Omega.{arith}
@@ -14,7 +14,7 @@ use Rattle.exact.proofs.laws.Reduction.{most_mono, least_mono, lower_from, upper
 use Rattle.exact.specs.Series.{factorial, exp_term, exp_lower, exp_tail, exp_upper}
 use Rattle.exact.specs.Holding.{◌∈◌}
 use Rattle.span.specs.declared.Span.{Span}
-use Rattle.span.specs.Spans.{unit, unit_positive, hull, fraction, Normal, Divisible, Quotient}
+use Rattle.span.specs.Spans.{unit, unit_positive, hull, fraction, Normal, Quotient}
 use Rattle.span.specs.Enclosing.{wider, divisor}
 use Rattle.span.specs.Windows.{exponent_by}
 use Rattle.span.specs.Bounds.{lower_end, upper_end, quotient_at, held}
@@ -45,10 +45,6 @@ from_zero_lem a b l = record { cross = omega arith }
 below-zero : (a b : ℕ) → a < b → ¬ (zero_f ⊑ fixed a b)
 unfolding zero_f fixed
 below-zero a b l h = omega (arith, h.cross)
-
-turned : (a b : ℕ) → neg (fixed a b) ≡ fixed b a
-unfolding neg fixed
-turned a b = refl
 
 small : (y : ℕ) → y < 512 * 2 ^ 30 → binary y 30 ≼ whole 512
 unfolding binary whole
@@ -125,16 +121,6 @@ module _ {x r : Span} (m : Normal x) (d : 2 ^ 29 ≤ x.lo) (q : Quotient one x r
       let w : 0 < 1 * (x.lo * 2 ^ x.e) = omega (arith, z) in
       let h = held _ _ w (quotient_at 1 1 (x.lo * 2 ^ x.e) unit one_positive unit_positive w z q one_in (lower_end x m)) in
       record { cross = omega (arith, h.above) }
-
-pub divides : {y : Ratio} {x : Span} → ExpIn spare 11303 24 1739 y x → Divisible one x
-divides h =
-    record {
-      left = record { least = omega arith; most = omega arith; ordered = omega arith };
-      right = h.normal;
-      divisor = divisor h.normal h.width (omega arith);
-      least = omega (arith, h.most);
-      most = omega arith;
-    }
 
 -- -y, y above 0
 pub at_negative : (a b y : ℕ) {x r : Span} → b ≡ a + y → 0 < y → y < 512 * 2 ^ 30 → ExpIn spare 11303 24 1739 (binary y 30) x → Quotient one x r

@@ -4,7 +4,6 @@ pub mod Octave
 pub mod LnPoint
 pub mod LnInterval
 pub mod ClosedFractions
-pub mod Matches
 pub mod Entries
 pub mod Quadratic
 pub mod ExpProducts

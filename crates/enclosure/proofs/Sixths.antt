@@ -2,19 +2,16 @@
 use Prim.Native.Nat.{ℕ, ◌+◌, ◌^◌, ◌≤◌}
 use native.Mathlib.Omega.{arith}
 use Rattle.span.specs.declared.Span.{Span}
-use Rattle.span.specs.Enclosing.{divisor, wider}
+use Rattle.span.specs.Enclosing.{wider}
 use Rattle.fixed.specs.declared.Log.{Log}
 use Rattle.fixed.specs.Logs.{Narrow, Small}
 use Rattle.fixed.specs.Promises.{Scalable, Scaled}
 use Rattle.fixed.specs.Enclosing.{scaled_encloses, ratio_value, larger}
 use Rattle.fixed.specs.Enclosing as multiples
-use Rattle.enclosure.specs.Promises.{reach, Loggable, Logarithm, Exponent, Exponential, Powerable, SixthPower}
+use Rattle.enclosure.specs.Promises.{reach, Logarithm, Exponent, Exponential, Powerable, SixthPower}
 use Rattle.enclosure.specs.Enclosing.{logarithm_encloses, expo_encloses, logarithm_small}
 
 module _ {t : Span} {p : ℕ} (s : Powerable t p) where
-  pub loggable : Loggable t
-  loggable = record { normal = s.normal; far = divisor s.normal s.narrow (omega arith); most = omega (arith, s.most) }
-
   module _ {l : Log} (g : Logarithm t l) where
     small_log : (k : ℕ) → 993 ≤ t.e + k → t.e ≤ 994 + k → Small l (reach k + 2 ^ 10 + 18)
     small_log k a b = logarithm_small k g s.narrow (omega arith) a b

@@ -1,10 +1,14 @@
 -- What the private tables of e^ hold, by digit: each entry is one unit of 2^-30 wide. That e^ lies there is tested in proofs/Entries. Assumes nothing.
-use Rattle.std.specs.Prelude.{List, [], ◌∷◌, ℕ, ◌+◌}
+use Rattle.std.specs.Prelude.{List, [], ◌∷◌, ℕ, ◌+◌, get_or, map}
 use Rattle.span.specs.declared.Span.{Span}
 
 -- from m to m + 1, times 2^e / 2^1024
 abbrev pub entry_of : ℕ → ℕ → Span
 entry_of m e = record { lo = m; hi = m + 1; e = e }
+
+-- the entry of a digit in a table of mantissas and exponents
+abbrev pub entry_at : List (ℕ × ℕ) → ℕ → Span
+entry_at table d = get_or (map (λ p. entry_of p.0 p.1) table) d (entry_of 0 0)
 
 -- e^(d / 256)
 unfoldable pub small_table : List Span

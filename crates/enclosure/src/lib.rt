@@ -27,11 +27,8 @@ pub fn expo(y: Log) -> Span
     requires { Exponent y }
     ensures { Exponential y result }
 {
-    let hi = y.hi;
-    let x = exponential::point(hi);
-    let d = hi - y.lo;
-    let w = d as u64;
-    exponential::lowered(x, w)
+    let upper = exponential::point(y.hi);
+    exponential::lowered(upper, (y.hi - y.lo) as u64)
 }
 
 // t^(p/6) = e^(p/6 ln t).
@@ -39,7 +36,5 @@ pub fn sixth_power(t: Span, p: u32) -> Span
     requires { Powerable t p }
     ensures { SixthPower t p result }
 {
-    let l = ln(t);
-    let y = fixed::sixths(l, p);
-    expo(y)
+    expo(fixed::scaled::<6>(ln(t), p))
 }

@@ -10,13 +10,13 @@ use span::Span;
 pub fn ln_3() -> Log
     ensures { Ln3 result }
 {
-    let t = span::whole(3);
-    enclosure::ln(t)
+    enclosure::ln(span::whole(3))
 }
 
+// The two powers are examples, each written as a caller writes it: one function of the exponent would hide the call.
 const HIGH: Log = Log {
-    lo: 221190815744,
-    hi: 221190815744,
+    lo: 206 << 30,
+    hi: 206 << 30,
 };
 
 // e^206
@@ -27,8 +27,8 @@ pub fn e_206() -> Span
 }
 
 const LOW: Log = Log {
-    lo: -63350767616,
-    hi: -63350767616,
+    lo: -59 << 30,
+    hi: -59 << 30,
 };
 
 // e^-59

@@ -4,11 +4,21 @@
 
 mod asked;
 
+ghost use Rattle.std.specs.Prelude.{◌≡◌};
 ghost use Rattle.enclosure_linked.specs.Intervals.{span_of, log_of};
 ghost use Rattle.enclosure_linked.specs.Answers.{LnGiven, ExpoGiven, ProductGiven, QuotientGiven};
 
 use fixed::Log;
 use span::Span;
+
+// The three numbers of a span, into the words that C lends.
+fn lend(r: Span, lower: &mut u64, upper: &mut u64, exponent: &mut u32)
+    ensures { span_of lower.new upper.new exponent.new ≡ r }
+{
+    *lower = r.lo;
+    *upper = r.hi;
+    *exponent = r.e;
+}
 
 // ln of the span from m·2^e to n·2^e.
 #[unsafe(no_mangle)]
@@ -20,10 +30,8 @@ pub extern "C" fn enclosure_ln(m: u64, n: u64, e: u32, lower: &mut i64, upper: &
         return false;
     }
     let r = enclosure::ln(t);
-    let l = r.lo;
-    let h = r.hi;
-    *lower = l;
-    *upper = h;
+    *lower = r.lo;
+    *upper = r.hi;
     true
 }
 
@@ -38,14 +46,11 @@ pub extern "C" fn enclosure_expo(
 ) -> bool
     ensures { ExpoGiven (log_of y z) (span_of lower.old upper.old exponent.old) (span_of lower.new upper.new exponent.new) result }
 {
-    if !asked::exponent(y, z) {
+    let t = Log { lo: y, hi: z };
+    if !asked::exponent(t) {
         return false;
     }
-    let t = Log { lo: y, hi: z };
-    let r = enclosure::expo(t);
-    *lower = r.lo;
-    *upper = r.hi;
-    *exponent = r.e;
+    lend(enclosure::expo(t), lower, upper, exponent);
     true
 }
 
@@ -69,14 +74,11 @@ pub extern "C" fn enclosure_mul(
     if !asked::factors(a, b) {
         return false;
     }
-    let r = span::mul(a, b);
-    *lower = r.lo;
-    *upper = r.hi;
-    *exponent = r.e;
+    lend(span::mul(a, b), lower, upper, exponent);
     true
 }
 
-// Their quotient.
+// Their quotient: an exported name of its own, with a test of its own.
 #[unsafe(no_mangle)]
 pub extern "C" fn enclosure_quo(
     m: u64,
@@ -96,9 +98,6 @@ pub extern "C" fn enclosure_quo(
     if !asked::divisible(a, b) {
         return false;
     }
-    let r = span::quo(a, b);
-    *lower = r.lo;
-    *upper = r.hi;
-    *exponent = r.e;
+    lend(span::quo(a, b), lower, upper, exponent);
     true
 }

@@ -13,7 +13,7 @@ fn air_in(frame: &[u8]) -> u64
     ensures { result ≡ air_in frame.now }
 {
     if frame.len() == 24 {
-        byte_numbers::two_at(frame, 22)
+        byte_numbers::number_at::<2>(frame, 22)
     } else {
         guidance::STANDARD
     }
@@ -27,16 +27,16 @@ pub fn read(frame: &[u8]) -> Case
     // first: a branch behind the other fields keeps their bytes from being loaded as words
     let air = air_in(frame);
     Case {
-        substance: byte_numbers::one_at(frame, 0),
-        state: byte_numbers::one_at(frame, 1),
-        placement: byte_numbers::one_at(frame, 2),
-        surroundings: byte_numbers::one_at(frame, 3),
-        mass: byte_numbers::four_at(frame, 4),
-        mean: byte_numbers::two_at(frame, 8),
-        stoichiometric: byte_numbers::two_at(frame, 10),
-        heat: byte_numbers::four_at(frame, 12),
-        distance: byte_numbers::four_at(frame, 16),
-        body: byte_numbers::two_at(frame, 20),
+        substance: byte_numbers::number_at::<1>(frame, 0),
+        state: byte_numbers::number_at::<1>(frame, 1),
+        placement: byte_numbers::number_at::<1>(frame, 2),
+        surroundings: byte_numbers::number_at::<1>(frame, 3),
+        mass: byte_numbers::number_at::<4>(frame, 4),
+        mean: byte_numbers::number_at::<2>(frame, 8),
+        stoichiometric: byte_numbers::number_at::<2>(frame, 10),
+        heat: byte_numbers::number_at::<4>(frame, 12),
+        distance: byte_numbers::number_at::<4>(frame, 16),
+        body: byte_numbers::number_at::<2>(frame, 20),
         air,
     }
 }
@@ -48,15 +48,15 @@ pub fn size_of(c: Case) -> usize
     if c.air == guidance::STANDARD { 22 } else { 24 }
 }
 
-// The four settings of a case, into the first four bytes of s.
+// The four settings of a case, into the first four bytes of s. A case and an old case hold them as fields of their own: a struct of four would be filled at each call.
 pub fn write_settings(s: &mut [u8], substance: u64, state: u64, placement: u64, surroundings: u64)
     requires { 4 ≤ length s.old }
     ensures { Stored s.old 0 (settings substance state placement surroundings) s.new }
 {
-    byte_numbers::put_one(s, 0, substance);
-    byte_numbers::put_one(s, 1, state);
-    byte_numbers::put_one(s, 2, placement);
-    byte_numbers::put_one(s, 3, surroundings);
+    byte_numbers::put::<1>(s, 0, substance);
+    byte_numbers::put::<1>(s, 1, state);
+    byte_numbers::put::<1>(s, 2, placement);
+    byte_numbers::put::<1>(s, 3, surroundings);
 }
 
 // All but the air pressure of a case, into the first 22 bytes of s.
@@ -65,12 +65,12 @@ pub fn write_first(s: &mut [u8], c: Case)
     ensures { Stored s.old 0 (first_bytes c) s.new }
 {
     write_settings(s, c.substance, c.state, c.placement, c.surroundings);
-    byte_numbers::put_four(s, 4, c.mass);
-    byte_numbers::put_two(s, 8, c.mean);
-    byte_numbers::put_two(s, 10, c.stoichiometric);
-    byte_numbers::put_four(s, 12, c.heat);
-    byte_numbers::put_four(s, 16, c.distance);
-    byte_numbers::put_two(s, 20, c.body);
+    byte_numbers::put::<4>(s, 4, c.mass);
+    byte_numbers::put::<2>(s, 8, c.mean);
+    byte_numbers::put::<2>(s, 10, c.stoichiometric);
+    byte_numbers::put::<4>(s, 12, c.heat);
+    byte_numbers::put::<4>(s, 16, c.distance);
+    byte_numbers::put::<2>(s, 20, c.body);
 }
 
 // The frame of a case in 24 bytes, the standard pressure written out too.
@@ -79,7 +79,7 @@ pub fn write_long(s: &mut [u8], c: Case)
     ensures { Stored s.old 0 (long_frame c) s.new }
 {
     write_first(s, c);
-    byte_numbers::put_two(s, 22, c.air);
+    byte_numbers::put::<2>(s, 22, c.air);
 }
 
 // The frame of a case, into the first 22 or 24 bytes of s.

@@ -1,6 +1,5 @@
 pub mod Within
 pub mod WordSteps
-pub mod Division
 pub mod Sums
 pub mod Scaling
 pub mod Rounding

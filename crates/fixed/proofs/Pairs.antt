@@ -1,60 +1,32 @@
--- The machine's steps of a product: the factors in units of 2^-28, the mirrored factor, and the least product of two ends. Assumes nothing.
-use mathlib.Core.Path.{◌≡◌, sym, ap, ◌∙◌}
-use mathlib.Core.Bool.{Bool, true, false, cond}
-use Prim.Native.Nat.{ℕ, ◌^◌, ◌≤◌, ◌<◌}
+-- The machine's steps of a product, from factors in units of 2^-28: the least product of two ends, and the shifts. Assumes nothing.
+use mathlib.Core.Path.{◌≡◌, refl, ap, ◌∙◌}
+use Prim.Native.Nat.{ℕ, ◌^◌, ◌≤◌}
 use native.Mathlib.Omega.{arith}
-use lib.IntN.{ℤ, pos, neg_ℤ, ◌*ℤ◌, ◌-ℤ◌}
-use lib.Signed.{mag, lt_z, shr_z}
+use lib.IntN.{ℤ, pos, negsuc, neg_ℤ, ◌*ℤ◌, ◌-ℤ◌}
+use lib.Signed.{shr_z}
+use Rattle.std.specs.Int.{int_min}
+use Rattle.std.proofs.lemmas.Int.{ints}
 use Rattle.fixed.specs.declared.Log.{Log}
-use Rattle.fixed.specs.FloorAndCeiling.{floor_z, ceil_z, min_z}
+use Rattle.fixed.specs.FloorAndCeiling.{floor_z, min_z}
 use Rattle.fixed.specs.Logs.{Small}
 use Rattle.fixed.specs.Promises.{LogFactors, LogProduct}
 use Rattle.fixed.specs.ProductSteps.{Coarse, Mirror, Pairs, lowest_z}
 use Rattle.fixed.specs.SignedLaws.{one_sided, neg_up, neg_dn, floor_parts, min_of}
 use Rattle.signed.specs.Reading.{R}
-use Rattle.signed.proofs.Back.{back}
 use Rattle.signed.specs.Magnitude.{Magnitude}
-use Rattle.signed.proofs.Magnitude.{looser, own}
-use Rattle.fixed.proofs.WordSteps.{Step, lower_end, upper_end, opposite, quotient, returned, opposite_step, shift_step, product_size, product_step}
+use Rattle.fixed.proofs.WordSteps.{Step, lower_end, upper_end, quotient, returned, opposite_step, shift_step, product_size, product_step}
 use Rattle.fixed.proofs.Products.{lowest_of, Around, around, mirrored, law}
 
--- The smaller of two
+-- The library's smaller of two
 
-pub less : (x y : ℤ) → mag x < 2 ^ 63 → mag y < 2 ^ 63 → lt_z (R x) (R y) ≡ true → R x ≡ min_z x y
-less x y h k t =
-    let e : lt_z x y ≡ true = rw (back x h, back y k) at t in
-    back x h ∙ sym (ap (λ (b : Bool). cond b x y) e)
+lesser : (x y : ℤ) → int_min x y ≡ min_z x y
+lesser (pos a) (pos b) = grind (arith, ints)
+lesser (pos a) (negsuc b) = refl
+lesser (negsuc a) (pos b) = refl
+lesser (negsuc a) (negsuc b) = grind (arith, ints)
 
-pub not-less : (x y : ℤ) → mag x < 2 ^ 63 → mag y < 2 ^ 63 → lt_z (R x) (R y) ≡ false → R y ≡ min_z x y
-not-less x y h k t =
-    let e : lt_z x y ≡ false = rw (back x h, back y k) at t in
-    back y k ∙ sym (ap (λ (b : Bool). cond b x y) e)
-
--- The opposites and the fourth parts of the ends
-
-module _ {a : Log} (s : Small a (2 ^ 33)) where
-  lower_size : Magnitude (2 ^ 62) a.lo
-  lower_size = looser (omega arith) (lower_end s)
-
-  upper_size : Magnitude (2 ^ 62) a.hi
-  upper_size = looser (omega arith) (upper_end s)
-
-  pub lower_opposite : Step (pos 0 -ℤ R a.lo) (neg_ℤ a.lo)
-  lower_opposite = opposite_step a.lo (own lower_size) lower_size
-
-  pub upper_opposite : Step (pos 0 -ℤ R a.hi) (neg_ℤ a.hi)
-  upper_opposite = opposite_step a.hi (own upper_size) upper_size
-
-  pub mirror_returns : Mirror a (record { lo = R (pos 0 -ℤ R a.hi); hi = R (pos 0 -ℤ R a.lo) })
-  mirror_returns = record { lower = upper_opposite.read; upper = lower_opposite.read }
-
-  pub coarse_upper : Step (pos 0 -ℤ R (shr_z (R (pos 0 -ℤ R a.hi)) 4)) (ceil_z a.hi 4)
-  coarse_upper =
-      opposite_step (shr_z (R (pos 0 -ℤ R a.hi)) 4) (shift_step (pos 0 -ℤ R a.hi) 4 upper_opposite.read (opposite upper_size)).read
-      (quotient (neg_ℤ a.hi) 4 (opposite upper_size))
-
-  pub coarse_returns : Coarse a (record { lo = R (shr_z (R a.lo) 4); hi = R (pos 0 -ℤ R (shr_z (R (pos 0 -ℤ R a.hi)) 4)) })
-  coarse_returns = record { lower = (shift_step a.lo 4 (own lower_size) lower_size).read; upper = coarse_upper.read }
+chosen : {w x y p q : ℤ} → w ≡ int_min x y → x ≡ p → y ≡ q → w ≡ min_z p q
+chosen {p = p} {q = q} e h k = rw (e, h, k) (lesser p q)
 
 -- Products of ends
 
@@ -87,23 +59,16 @@ module _ {a b : Log} (s : Pairs a b) where
   lowest_size = lowest_of (Magnitude (2 ^ 62)) a b (product_size al bl) (product_size al bh) (product_size ah bl) (product_size ah bh)
 
   -- u and v: the smaller of two products, and w the smaller of these, as the code finds them
-  module _ {u v w : ℤ} (e : u ≡ min_z (R (R a.lo *ℤ R b.lo)) (R (R a.lo *ℤ R b.hi)))
-      (f : v ≡ min_z (R (R a.hi *ℤ R b.lo)) (R (R a.hi *ℤ R b.hi))) (g : w ≡ min_z (R u) (R v)) where
+  module _ {u v w : ℤ} (e : u ≡ int_min (R (R a.lo *ℤ R b.lo)) (R (R a.lo *ℤ R b.hi)))
+      (f : v ≡ int_min (R (R a.hi *ℤ R b.lo)) (R (R a.hi *ℤ R b.hi))) (g : w ≡ int_min (R u) (R v)) where
     first : R u ≡ min_z (a.lo *ℤ b.lo) (a.lo *ℤ b.hi)
-    first =
-        returned
-        (e ∙ ap (λ (z : ℤ). min_z z (R (R a.lo *ℤ R b.hi))) low_low.read ∙ ap (λ (z : ℤ). min_z (a.lo *ℤ b.lo) z) low_high.read)
-        (min_of (Magnitude (2 ^ 62)) (product_size al bl) (product_size al bh))
+    first = returned (chosen e low_low.read low_high.read) (min_of (Magnitude (2 ^ 62)) (product_size al bl) (product_size al bh))
 
     second : R v ≡ min_z (a.hi *ℤ b.lo) (a.hi *ℤ b.hi)
-    second =
-        returned
-        (f ∙ ap (λ (z : ℤ). min_z z (R (R a.hi *ℤ R b.hi))) high_low.read ∙ ap (λ (z : ℤ). min_z (a.hi *ℤ b.lo) z) high_high.read)
-        (min_of (Magnitude (2 ^ 62)) (product_size ah bl) (product_size ah bh))
+    second = returned (chosen f high_low.read high_high.read) (min_of (Magnitude (2 ^ 62)) (product_size ah bl) (product_size ah bh))
 
     pub lowest_returns : R w ≡ lowest_z a b
-    lowest_returns =
-        returned (g ∙ ap (λ (z : ℤ). min_z z (R v)) first ∙ ap (λ (z : ℤ). min_z (min_z (a.lo *ℤ b.lo) (a.lo *ℤ b.hi)) z) second) lowest_size
+    lowest_returns = returned (chosen g first second) lowest_size
 
 -- The product
 

@@ -1,101 +1,83 @@
 // Intervals of real numbers of either sign, in fixed point: both ends are i64 in units of 2^-30, the lower divided downward and the upper upward, around zero.
 #![tactic(auto)]
 
-ghost use Rattle.std.specs.Prelude.{◌≡◌, ◌^◌};
-ghost use Rattle.fixed.specs.FloorAndCeiling.{floor_z, min_z};
+ghost use Rattle.std.specs.Prelude.{◌≡◌, ◌^◌, ◌<◌};
 ghost use Rattle.fixed.specs.Logs.{Small};
 ghost use Rattle.fixed.specs.Promises.{Summands, LogSum, LogDifference, LogFactors, LogProduct, Scalable, Scaled};
 ghost use Rattle.fixed.specs.ProductSteps.{Coarse, Mirror, Pairs, lowest_z};
 ghost use Rattle.fixed.specs.Millis.{Countable, floor_milli, ceil_milli};
 
-// The numbers from lo / 2^30 to hi / 2^30.
+use std::ops::{Add, Mul, Neg, Sub};
+
+// The numbers from lo / 2^30 to hi / 2^30. No invariant asks that lo is not above hi: the laws of `specs/` hold of every two words.
 #[derive(Clone, Copy)]
 pub struct Log {
     pub lo: i64,
     pub hi: i64,
 }
 
-// a + b
-pub fn add(a: Log, b: Log) -> Log
-    requires { Summands a b }
-    ensures { LogSum a b result }
-{
-    Log {
-        lo: a.lo + b.lo,
-        hi: a.hi + b.hi,
+impl Add for Log {
+    type Output = Log;
+
+    ghost can_add = { Summands };
+
+    ghost add_gives = { LogSum };
+
+    fn add(self, other: Log) -> Log {
+        Log {
+            lo: self.lo + other.lo,
+            hi: self.hi + other.hi,
+        }
     }
 }
 
-// a - b: the ends of b change places.
-pub fn sub(a: Log, b: Log) -> Log
-    requires { Summands a b }
-    ensures { LogDifference a b result }
-{
-    Log {
-        lo: a.lo - b.hi,
-        hi: a.hi - b.lo,
+// The ends of what is taken away change places.
+impl Sub for Log {
+    type Output = Log;
+
+    ghost can_sub = { Summands };
+
+    ghost sub_gives = { LogDifference };
+
+    fn sub(self, other: Log) -> Log {
+        Log {
+            lo: self.lo - other.hi,
+            hi: self.hi - other.lo,
+        }
     }
 }
 
-// x / 6, rounded downward.
-fn floor_sixth(x: i64) -> i64
-    ensures { result ≡ floor_z x 6 }
-{
-    if x >= 0 {
-        x / 6
-    } else {
-        let a = -1 - x;
-        let s = a / 6;
-        -1 - s
+impl Neg for Log {
+    type Output = Log;
+
+    ghost can_neg = { λ a. Small a (2 ^ 33) };
+
+    ghost neg_gives = { Mirror };
+
+    fn neg(self) -> Log {
+        Log {
+            lo: -self.hi,
+            hi: -self.lo,
+        }
     }
 }
 
-// x / 10000, rounded downward.
-fn floor_ten_thousandth(x: i64) -> i64
-    ensures { result ≡ floor_z x 10000 }
-{
-    if x >= 0 {
-        x / 10000
-    } else {
-        let a = -1 - x;
-        let t = a / 10000;
-        -1 - t
+// Over all pairs of ends. Factors in units of 2^-28 have products that fit; the greatest product is minus the least of -a and b.
+impl Mul for Log {
+    type Output = Log;
+
+    ghost can_mul = { LogFactors };
+
+    ghost mul_gives = { LogProduct };
+
+    fn mul(self, other: Log) -> Log {
+        let a = coarse(self);
+        let b = coarse(other);
+        Log {
+            lo: lowest(a, b) >> 26,
+            hi: -(lowest(-a, b) >> 26),
+        }
     }
-}
-
-// a p / 6
-pub fn sixths(a: Log, p: u32) -> Log
-    requires { Scalable p a }
-    ensures { Scaled p 6 a result }
-{
-    let k = p as i64;
-    let x = a.lo * k;
-    let lo = floor_sixth(x);
-    let y = a.hi * k;
-    let z = 0 - y;
-    let n = floor_sixth(z);
-    Log { lo: lo, hi: 0 - n }
-}
-
-// a p / 10000
-pub fn ten_thousandths(a: Log, p: u32) -> Log
-    requires { Scalable p a }
-    ensures { Scaled p 10000 a result }
-{
-    let k = p as i64;
-    let x = a.lo * k;
-    let lo = floor_ten_thousandth(x);
-    let y = a.hi * k;
-    let z = 0 - y;
-    let n = floor_ten_thousandth(z);
-    Log { lo: lo, hi: 0 - n }
-}
-
-// The smaller of two.
-fn lesser(x: i64, y: i64) -> i64
-    ensures { result ≡ min_z x y }
-{
-    if x < y { x } else { y }
 }
 
 // a in units of 2^-28, outward.
@@ -103,22 +85,9 @@ fn coarse(a: Log) -> Log
     requires { Small a (2 ^ 33) }
     ensures { Coarse a result }
 {
-    let n = 0 - a.hi;
-    let q = n >> 2;
     Log {
         lo: a.lo >> 2,
-        hi: 0 - q,
-    }
-}
-
-// -a
-fn mirror(a: Log) -> Log
-    requires { Small a (2 ^ 33) }
-    ensures { Mirror a result }
-{
-    Log {
-        lo: 0 - a.hi,
-        hi: 0 - a.lo,
+        hi: -(-a.hi >> 2),
     }
 }
 
@@ -127,29 +96,22 @@ fn lowest(a: Log, b: Log) -> i64
     requires { Pairs a b }
     ensures { result ≡ lowest_z a b }
 {
-    let s = a.lo * b.lo;
-    let t = a.lo * b.hi;
-    let u = lesser(s, t);
-    let v = a.hi * b.lo;
-    let w = a.hi * b.hi;
-    let x = lesser(v, w);
-    lesser(u, x)
+    let of_lower = (a.lo * b.lo).min(a.lo * b.hi);
+    let of_upper = (a.hi * b.lo).min(a.hi * b.hi);
+    of_lower.min(of_upper)
 }
 
-// a b, over all pairs of ends. Factors in units of 2^-28 have products that fit; the greatest product is minus the least of -a and b.
-pub fn product(a: Log, b: Log) -> Log
-    requires { LogFactors a b }
-    ensures { LogProduct a b result }
+// a p / D
+pub fn scaled<const D: u32>(a: Log, p: u32) -> Log
+    requires divisor { 0 < D }
+    requires factors { Scalable p a }
+    ensures { Scaled p D a result }
 {
-    let c = coarse(a);
-    let d = coarse(b);
-    let l = lowest(c, d);
-    let m = mirror(c);
-    let n = lowest(m, d);
-    let q = n >> 26;
+    let d = i64::from(D);
+    let p = i64::from(p);
     Log {
-        lo: l >> 26,
-        hi: 0 - q,
+        lo: (a.lo * p).div_euclid(d),
+        hi: -(-(a.hi * p)).div_euclid(d),
     }
 }
 
@@ -158,8 +120,7 @@ pub fn floor_milli(y: Log) -> i64
     requires { Countable y }
     ensures { result ≡ floor_milli y }
 {
-    let x = y.lo * 1000;
-    x >> 30
+    y.lo * 1000 >> 30
 }
 
 // The upper end in thousandths, rounded upward.
@@ -167,8 +128,5 @@ pub fn ceil_milli(y: Log) -> i64
     requires { Countable y }
     ensures { result ≡ ceil_milli y }
 {
-    let x = y.hi * 1000;
-    let z = 0 - x;
-    let q = z >> 30;
-    0 - q
+    -(-(y.hi * 1000) >> 30)
 }

@@ -1,11 +1,10 @@
 -- The verdict on a case, by tests 1 to 8 (document 01, "Refused cases").
-use Rattle.std.specs.Prelude.{ℕ, List, [], ◌∷◌, ◌++◌, ltb}
+use Rattle.std.specs.Prelude.{ℕ, List, [], ◌∷◌, ◌++◌, ltb, Err, Ok}
 use Rattle.std.proofs.Math.Option.{Option, none, some}
 use Rattle.guidance.specs.declared.Case.{Case}
 use Rattle.frame.specs.declared.Refusal.{Refusal}
 use Rattle.frame.specs.declared.Refusal.TheVariants.{Faulty, Beyond, Space}
-use Rattle.frame.specs.declared.Verdict.{Verdict}
-use Rattle.frame.specs.declared.Verdict.TheVariants.{Accepted, Refused}
+use Rattle.frame.specs.Verdict.{Verdict}
 use Rattle.hexadecimals.specs.Digits.{bytes_of}
 use Rattle.fields.specs.Bytes.{fields_of}
 use Rattle.refusals.specs.Order.{Test, ◌when◌, first_of, held}
@@ -21,8 +20,8 @@ last_tests c room = (Beyond when beyond c) ∷ (Space when ltb room answer_lengt
 
 -- the first test that applies refuses the case; a case to which none applies is accepted
 abbrev pub verdict_by : Option Refusal → Case → Verdict
-verdict_by none c = Accepted c
-verdict_by (some r) c = Refused r
+verdict_by none c = Ok c
+verdict_by (some r) c = Err r
 
 -- tests 1 to 8
 unfoldable pub frame_verdict : List ℕ → (room : ℕ) → Verdict

@@ -1,123 +1,98 @@
 // The case frame and the line that spells it: refusals in their order, the verdict.
 #![tactic(auto)]
 
-ghost use Rattle.std.specs.Prelude.{◌≡◌, ◌||◌, eqb};
+ghost use Rattle.std.specs.Prelude.{◌≡◌, ◌*◌, ◌≤◌, cond, length};
 ghost use Rattle.guidance.specs.CloudWords.{Heated};
-ghost use Rattle.refusals.specs.Faults.{filled};
-ghost use Rattle.limits.specs.Checks.{HeatedIfSound};
-ghost use Rattle.frame.specs.Refusals.{number, code, word};
+ghost use Rattle.hexadecimals.specs.Digits.{all_digits, bytes_of};
+ghost use Rattle.refusals.specs.declared.Fault.TheVariants.{Digit};
+ghost use Rattle.fields.specs.Bytes.{fields_of};
+ghost use Rattle.frame.specs.declared.Refusal.TheVariants.{Faulty};
+ghost use Rattle.frame.specs.Refusals.{number, word, told};
 ghost use Rattle.frame.specs.Tests.{beyond};
 ghost use Rattle.frame.specs.Verdicts.{frame_verdict, line_verdict};
-ghost use Rattle.frame.specs.Checks.{frame_checked, line_read, case_tested, line_checked, placed, judged};
+ghost use Rattle.frame.specs.Checks.{frame_checked, line_read, line_checked, placed};
 
-use guidance::Case;
-use limits::Checked;
-use refusals::Fault;
+use guidance::{Case, Setting};
+use refusals::{Fault, Reason};
 
 // The bytes of an answer frame.
 pub const ANSWER: usize = 77;
 
 // Why a case has no answer: a fault of its own, then tests 7 and 8.
-#[derive(Clone, Copy)]
+#[derive(Clone, Copy, Debug, PartialEq, Eq)]
 pub enum Refusal {
     Faulty(Fault),
     Beyond,
     Space,
 }
 
-// What becomes of a case: it is accepted, or refused by the first test that applies.
-#[derive(Clone, Copy)]
-pub enum Verdict {
-    Accepted(Case),
-    Refused(Refusal),
-}
+impl From<Fault> for Refusal {
+    ghost from_gives = { λ f r. r ≡ Faulty f };
 
-pub fn number_of(r: Refusal) -> u64
-    ensures { result ≡ number r }
-{
-    match r {
-        Refusal::Faulty(f) => refusals::number_of(f),
-        Refusal::Beyond => 7,
-        Refusal::Space => 8,
+    fn from(f: Fault) -> Refusal {
+        Refusal::Faulty(f)
     }
 }
 
-// The refusal's word, filled with zeros to 12 bytes.
-pub fn word_of(r: Refusal) -> [u8; 12]
-    ensures { result ≡ filled (word r) }
-{
-    match r {
-        Refusal::Faulty(f) => refusals::word_of(f),
-        Refusal::Beyond => *b"beyond\0\0\0\0\0\0",
-        Refusal::Space => *b"space\0\0\0\0\0\0\0",
-    }
-}
+impl Reason for Refusal {
+    ghost number_told = { number };
 
-// 0 for an accepted case, else the number of its refusal.
-pub fn code_of(v: Verdict) -> u64
-    ensures { result ≡ code v }
-{
-    match v {
-        Verdict::Accepted(_) => 0,
-        Verdict::Refused(r) => number_of(r),
-    }
-}
+    ghost word_told = { word };
 
-// Whether a length is one of two.
-fn is_either(a: usize, b: usize, n: usize) -> bool
-    ensures { result ≡ (eqb n a || eqb n b) }
-{
-    if n == a { true } else { n == b }
+    ghost tells = { told };
+
+    fn number(self) -> u64 {
+        match self {
+            Refusal::Faulty(f) => f.number(),
+            Refusal::Beyond => 7,
+            Refusal::Space => 8,
+        }
+    }
+
+    fn word(self) -> [u8; 12] {
+        match self {
+            Refusal::Faulty(f) => f.word(),
+            Refusal::Beyond => *b"beyond\0\0\0\0\0\0",
+            Refusal::Space => *b"space\0\0\0\0\0\0\0",
+        }
+    }
 }
 
 // Tests 1 to 6 of a frame given as bytes.
-pub fn check_frame(frame: &[u8]) -> Checked
+pub fn check_frame(frame: &[u8]) -> Result<Case, Fault>
     ensures { result ≡ frame_checked frame.now }
 {
-    if is_either(22, 24, frame.len()) {
-        limits::check(fields::read(frame))
-    } else {
-        Checked::Unsound(Fault::Length)
+    match frame.len() {
+        22 | 24 => limits::check(fields::read(frame)),
+        _ => Err(Fault::Length),
     }
 }
 
-// Tests 1 and 2 of a line, and the case of the frame that it spells. Each length has its own array, so that the loops over it are unrolled.
-fn read_line(line: &[u8]) -> Checked
+// Test 2 of a line of two characters for each of N bytes, and the case of the frame that it spells. Each length has its own array, so that the loops over it are unrolled.
+fn spelled<const N: usize>(line: &[u8]) -> Result<Case, Fault>
+    requires { (22 ≤ N) × (N ≤ 24) × (length line.now ≡ 2 * N) }
+    ensures { result ≡ cond (all_digits line.now) (Ok (fields_of (bytes_of line.now))) (Err Digit) }
+{
+    let frame = hexadecimals::spelled::<N>(line).ok_or(Fault::Digit)?;
+    Ok(fields::read(&frame))
+}
+
+// Tests 1 and 2 of a line, and the case of the frame that it spells.
+fn read_line(line: &[u8]) -> Result<Case, Fault>
     ensures { result ≡ line_read line.now }
 {
-    if line.len() == 44 {
-        let mut frame = [0u8; 22];
-        if hexadecimals::spell(line, &mut frame) {
-            return Checked::Sound(fields::read(&frame));
-        }
-        return Checked::Unsound(Fault::Digit);
-    }
-    if line.len() == 48 {
-        let mut frame = [0u8; 24];
-        if hexadecimals::spell(line, &mut frame) {
-            return Checked::Sound(fields::read(&frame));
-        }
-        return Checked::Unsound(Fault::Digit);
-    }
-    Checked::Unsound(Fault::Length)
-}
-
-// What tests 1 and 2 found stands, else 3 to 6 decide.
-fn test_case(s: Checked) -> Checked
-    ensures { result ≡ case_tested s }
-{
-    match s {
-        Checked::Sound(c) => limits::check(c),
-        Checked::Unsound(f) => Checked::Unsound(f),
+    match line.len() {
+        44 => spelled::<22>(line),
+        48 => spelled::<24>(line),
+        _ => Err(Fault::Length),
     }
 }
 
-// Tests 1 to 6 of a line.
-pub fn check_line(line: &[u8]) -> Checked
+// Tests 1 to 6 of a line. A frame and a line are both slices, so that here and in each entry a name tells which.
+pub fn check_line(line: &[u8]) -> Result<Case, Fault>
     ensures { result ≡ line_checked line.now }
 {
-    let s = read_line(line);
-    test_case(s)
+    limits::check(read_line(line)?)
 }
 
 // Test 7, for a case that passed tests 1 to 6.
@@ -125,46 +100,34 @@ pub fn is_beyond(c: Case) -> bool
     requires { Heated c }
     ensures { result ≡ beyond c }
 {
-    let cloud = guidance::cloud_of(c);
-    guidance::is_beyond(c, cloud, guidance::air_of(c))
+    Setting::in_own_air(c).is_beyond()
 }
 
 // Tests 7 and 8.
-fn place(c: Case, room: usize) -> Verdict
+#[tactic(auto, unfolding(crate::specs::Verdicts::last_tests, refusals::specs::Order::first_of))]
+fn place(c: Case, room: usize) -> Result<Case, Refusal>
     requires { Heated c }
     ensures { result ≡ placed c room }
 {
     if is_beyond(c) {
-        return Verdict::Refused(Refusal::Beyond);
+        return Err(Refusal::Beyond);
     }
     if room < ANSWER {
-        return Verdict::Refused(Refusal::Space);
+        return Err(Refusal::Space);
     }
-    Verdict::Accepted(c)
-}
-
-fn judge(s: Checked, room: usize) -> Verdict
-    requires { HeatedIfSound s }
-    ensures { result ≡ judged s room }
-{
-    match s {
-        Checked::Sound(c) => place(c, room),
-        Checked::Unsound(f) => Verdict::Refused(Refusal::Faulty(f)),
-    }
+    Ok(c)
 }
 
 // The verdict on a frame given as bytes, with `room` bytes for its answer.
-pub fn decide_frame(frame: &[u8], room: usize) -> Verdict
+pub fn decide_frame(frame: &[u8], room: usize) -> Result<Case, Refusal>
     ensures { result ≡ frame_verdict frame.now room }
 {
-    let s = check_frame(frame);
-    judge(s, room)
+    place(check_frame(frame)?, room)
 }
 
 // The verdict on a line, with `room` bytes for its answer.
-pub fn decide_line(line: &[u8], room: usize) -> Verdict
+pub fn decide_line(line: &[u8], room: usize) -> Result<Case, Refusal>
     ensures { result ≡ line_verdict line.now room }
 {
-    let s = check_line(line);
-    judge(s, room)
+    place(check_line(line)?, room)
 }

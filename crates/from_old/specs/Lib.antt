@@ -1,3 +1,5 @@
+pub mod Reading
+pub mod Verdict
 pub mod Refusals
 pub mod Tests
 pub mod Entry

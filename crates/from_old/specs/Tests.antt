@@ -1,5 +1,5 @@
 -- The tests of an old line in their order: 1, 2, 15, 16, 3 to 6, 8 (request 3).
-use Rattle.std.specs.Prelude.{ℕ, not, List, [], ◌∷◌, ◌++◌, length, eqb}
+use Rattle.std.specs.Prelude.{ℕ, not, List, [], ◌∷◌, ◌++◌, length, eqb, Err, Ok}
 use Rattle.std.proofs.Math.Option.{Option, none, some}
 use Rattle.guidance.specs.declared.Case.{Case}
 use Rattle.refusals.specs.declared.Fault.{Fault}
@@ -14,8 +14,7 @@ use Rattle.old_case.specs.Cases.{unusable_in, case_of, lost_heat}
 use Rattle.old_bytes.specs.Bytes.{old_of, misplaced}
 use Rattle.from_old.specs.declared.Refusal.{Refusal}
 use Rattle.from_old.specs.declared.Refusal.TheVariants.{Unwritten, Tag, Double}
-use Rattle.from_old.specs.declared.Verdict.{Verdict}
-use Rattle.from_old.specs.declared.Verdict.TheVariants.{Accepted, Refused}
+use Rattle.from_old.specs.Verdict.{Verdict}
 
 -- a line has 116 digits; every tag is looked at before any double
 unfoldable pub reading_tests : (line : List ℕ) → List (Test Refusal)
@@ -36,8 +35,8 @@ line_tests line room = reading_tests line ++ held Unwritten (writable_tests (who
 
 -- the first test that applies refuses the line; a line to which none applies is accepted
 abbrev pub verdict_by : Option Refusal → Case → Verdict
-verdict_by none c = Accepted c
-verdict_by (some r) c = Refused r
+verdict_by none c = Ok c
+verdict_by (some r) c = Err r
 
 unfoldable pub line_verdict : (line : List ℕ) (room : ℕ) → Verdict
 line_verdict line room = verdict_by (first_of (line_tests line room)) (case_of (old_of (bytes_of line)))

@@ -2,137 +2,108 @@
 #![tactic(auto)]
 
 ghost use Rattle.std.specs.Prelude.{◌≡◌, false, length};
-ghost use Rattle.refusals.specs.Faults.{filled};
+ghost use Rattle.writable.specs.declared.Refusal.TheVariants.{Faulty};
 ghost use Rattle.old_case.specs.Cases.{unusable_in};
-ghost use Rattle.from_old.specs.Refusals.{number, code, word};
+ghost use Rattle.from_old.specs.declared.Refusal.TheVariants.{Unwritten};
+ghost use Rattle.from_old.specs.Refusals.{number, word, told};
 ghost use Rattle.from_old.specs.Entry.{FromLine};
-ghost use Rattle.from_old.specs.Steps.{bytes_reading, line_reading, UsableIfOld, wholes_checked, held_by, Entered};
+ghost use Rattle.from_old.specs.Steps.{bytes_reading, line_reading, wholes_checked};
 
 use guidance::Case;
-use limits::Checked;
 use old_case::OldCase;
-use refusals::Fault;
+use refusals::{Fault, Reason};
 
 // The characters of an old line.
 const LINE: usize = 116;
 
 // Why an old line has no frame: as any case that is to be written, or by tests 15 and 16, which stand behind 2.
-#[derive(Clone, Copy)]
+#[derive(Clone, Copy, Debug, PartialEq, Eq)]
 pub enum Refusal {
     Unwritten(writable::Refusal),
     Tag,
     Double,
 }
 
-// What becomes of an old line.
-#[derive(Clone, Copy)]
-pub enum Verdict {
-    Accepted(Case),
-    Refused(Refusal),
-}
+impl From<Fault> for Refusal {
+    ghost from_gives = { λ f r. r ≡ Unwritten (Faulty f) };
 
-// What tests 1, 2, 15 and 16 make of an old line.
-#[derive(Clone, Copy)]
-enum Reading {
-    Old(OldCase),
-    Unread(Refusal),
-}
-
-pub fn number_of(r: Refusal) -> u64
-    ensures { result ≡ number r }
-{
-    match r {
-        Refusal::Unwritten(w) => writable::number_of(w),
-        Refusal::Tag => 15,
-        Refusal::Double => 16,
+    fn from(f: Fault) -> Refusal {
+        Refusal::Unwritten(writable::Refusal::Faulty(f))
     }
 }
 
-// The refusal's word, filled with zeros to 12 bytes.
-pub fn word_of(r: Refusal) -> [u8; 12]
-    ensures { result ≡ filled (word r) }
-{
-    match r {
-        Refusal::Unwritten(w) => writable::word_of(w),
-        Refusal::Tag => *b"tag\0\0\0\0\0\0\0\0\0",
-        Refusal::Double => *b"double\0\0\0\0\0\0",
+impl From<writable::Refusal> for Refusal {
+    ghost from_gives = { λ w r. r ≡ Unwritten w };
+
+    fn from(w: writable::Refusal) -> Refusal {
+        Refusal::Unwritten(w)
     }
 }
 
-// 0 for an accepted line, else the number of its refusal.
-pub fn code_of(v: Verdict) -> u64
-    ensures { result ≡ code v }
-{
-    match v {
-        Verdict::Accepted(_) => 0,
-        Verdict::Refused(r) => number_of(r),
+impl Reason for Refusal {
+    ghost number_told = { number };
+
+    ghost word_told = { word };
+
+    ghost tells = { told };
+
+    fn number(self) -> u64 {
+        match self {
+            Refusal::Unwritten(w) => w.number(),
+            Refusal::Tag => 15,
+            Refusal::Double => 16,
+        }
+    }
+
+    fn word(self) -> [u8; 12] {
+        match self {
+            Refusal::Unwritten(w) => w.word(),
+            Refusal::Tag => *b"tag\0\0\0\0\0\0\0\0\0",
+            Refusal::Double => *b"double\0\0\0\0\0\0",
+        }
     }
 }
 
 // Tests 15 and 16 of the 58 bytes: all tags before any double.
-fn read_bytes(s: &[u8]) -> Reading
+fn read_bytes(s: &[u8]) -> Result<OldCase, Refusal>
     requires { length s.now ≡ 58 }
     ensures { result ≡ bytes_reading s.now }
 {
     if old_bytes::is_misplaced(s) {
-        return Reading::Unread(Refusal::Tag);
+        return Err(Refusal::Tag);
     }
     let o = old_bytes::read(s);
     if old_case::is_unusable(o) {
-        return Reading::Unread(Refusal::Double);
+        return Err(Refusal::Double);
     }
-    Reading::Old(o)
+    Ok(o)
 }
 
 // Tests 1, 2, 15 and 16 of an old line.
-fn read_line(line: &[u8]) -> Reading
+fn read_line(line: &[u8]) -> Result<OldCase, Refusal>
     ensures { result ≡ line_reading line.now }
 {
-    if line.len() == LINE {
-        let mut s = [0u8; 58];
-        if hexadecimals::spell(line, &mut s) {
-            read_bytes(&s)
-        } else {
-            Reading::Unread(Refusal::Unwritten(writable::Refusal::Faulty(Fault::Digit)))
-        }
-    } else {
-        Reading::Unread(Refusal::Unwritten(writable::Refusal::Faulty(Fault::Length)))
+    if line.len() != LINE {
+        return Err(Refusal::from(Fault::Length));
     }
+    let bytes = hexadecimals::spelled::<58>(line).ok_or(Fault::Digit)?;
+    read_bytes(&bytes)
 }
 
 // Tests 3 to 6 of the whole numbers, a lost heat under 5.
-fn check(o: OldCase) -> Checked
+fn check(o: OldCase) -> Result<Case, Fault>
     requires { unusable_in o ≡ false }
     ensures { result ≡ wholes_checked o }
 {
-    let s = limits::check_values(old_case::case_of(o));
-    limits::check_heat(s, old_case::is_heat_lost(o))
-}
-
-fn held(v: writable::Verdict) -> Verdict
-    ensures { result ≡ held_by v }
-{
-    match v {
-        writable::Verdict::Accepted(c) => Verdict::Accepted(c),
-        writable::Verdict::Refused(r) => Verdict::Refused(Refusal::Unwritten(r)),
-    }
-}
-
-// What reading found stands, else tests 3 to 6 and 8 decide, and an accepted line's frame is written.
-fn enter(r: Reading, area: &mut [u8]) -> Verdict
-    requires { UsableIfOld r }
-    ensures { Entered r area.old result area.new }
-{
-    match r {
-        Reading::Old(o) => held(writable::write_frame(check(o), area)),
-        Reading::Unread(u) => Verdict::Refused(u),
-    }
+    let found = limits::check_values(old_case::case_of(o));
+    limits::check_heat(found, old_case::is_heat_lost(o))
 }
 
 // The way in: the frame of an old line, into the area's first 22 bytes.
-pub fn from_line(line: &[u8], area: &mut [u8]) -> Verdict
+pub fn from_line(line: &[u8], area: &mut [u8]) -> Result<Case, Refusal>
     ensures { FromLine line.now area.old result area.new }
 {
-    let r = read_line(line);
-    enter(r, area)
+    let o = read_line(line)?;
+    let c = writable::write_frame(check(o), area)?;
+    Ok(c)
 }

@@ -44,11 +44,6 @@ pub record Placed (c : Case) (k : Cloud) (air : ℕ) : Type 0 where
   pub cloud : CloudOf c k
   pub pressure : Air air
 
--- the same with a threshold in millionths, at most 24³
-pub record Compared (c : Case) (k : Cloud) (air t : ℕ) : Type 0 where
-  pub placed : Placed c k air
-  pub most : t ≤ 13824000000
-
 -- r³P0 < t·E, in millionths and over parts·4: cm³ times `weight_of` against joules times `scaled_by t`
 unfoldable pub weight_of : Cloud → (air : ℕ) → ℕ
 weight_of k air = air * k.parts * cond k.aerosol 4 1

@@ -2,10 +2,8 @@
 ghost use Rattle.std.specs.Prelude.{◌≡◌, ◌≤◌};
 ghost use Rattle.guidance.specs.Ranges.{range_at};
 
-use crate::arithmetic;
-
-// A row for each class, a column for each surroundings, both 1 to 4 (003, Table 2). Of u16, since the table is laid on the stack at each use.
-const RANGES: [[u16; 4]; 4] = [
+// A row for each class, a column for each surroundings, both 1 to 4 (003, Table 2).
+static RANGES: [[u64; 4]; 4] = [
     // class 1
     [1, 1, 2, 3],
     // class 2
@@ -16,11 +14,10 @@ const RANGES: [[u16; 4]; 4] = [
     [3, 4, 5, 6],
 ];
 
+#[tactic(auto, unfolding(crate::specs::Ranges::ranges, crate::specs::Ranges::range_at))]
 pub fn range_at(class: u64, surroundings: u64) -> u64
     requires { (1 ≤ class) × (class ≤ 4) × (1 ≤ surroundings) × (surroundings ≤ 4) }
     ensures { result ≡ range_at class surroundings }
 {
-    let row = (class - 1) as usize;
-    let column = (surroundings - 1) as usize;
-    arithmetic::widened(RANGES[row][column])
+    RANGES[class as usize - 1][surroundings as usize - 1]
 }

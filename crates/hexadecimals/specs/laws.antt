@@ -1,6 +1,5 @@
 -- Laws of the definitions.
 pub mod Within
-pub mod Worth
 pub mod Spelling
 pub mod Written
 pub mod Writing

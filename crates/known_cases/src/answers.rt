@@ -1,41 +1,32 @@
 // A line's answer, and that of the frame that it spells.
-ghost use Rattle.std.specs.Prelude.{◌≤◌, length};
+ghost use Rattle.std.specs.Prelude.{◌≤◌};
 
-use vectors::judging::NO_FRAME;
+use frame::Refusal;
+use guidance::Case;
+use refusals::code_of;
+use vectors::judging::{Answer, FILL};
 
-// The verdict's number on a line, with the first `room` bytes of the area lent for its answer.
-pub(crate) fn answer_to(line: &[u8], area: &mut [u8], room: usize) -> u64
-    requires { room ≤ length area.old }
+// What an entry answers, with the first `room` bytes of an area lent to it.
+fn answer_of<F: FnOnce(&mut [u8]) -> Result<Case, Refusal>>(room: usize, entry: F) -> Answer
+    requires room { room ≤ 80 }
+    requires callable { F.IsAlwaysCallable entry }
 {
-    frame::code_of(answer::from_line(line, &mut area[..room]))
+    let mut area = [FILL; 80];
+    let verdict = code_of(entry(&mut area[..room]));
+    Answer { verdict, area }
 }
 
-// The same for a frame.
-pub(crate) fn answer_to_frame(frame: &[u8], area: &mut [u8], room: usize) -> u64
-    requires { room ≤ length area.old }
+pub(crate) fn to_line(line: &[u8], room: usize) -> Answer
+    requires { room ≤ 80 }
 {
-    frame::code_of(answer::from_frame(frame, &mut area[..room]))
+    answer_of(room, |area| answer::from_line(line, area))
 }
 
-// The same for the frame that a line spells, if it spells one in these bytes.
-fn answer_to_spelled(line: &[u8], frame: &mut [u8], area: &mut [u8], room: usize) -> u64
-    requires { (length frame.old ≤ 24) × (room ≤ length area.old) }
+// The same of the frame that a line spells, if it spells one.
+pub(crate) fn to_frame_of(line: &[u8], room: usize) -> Option<Answer>
+    requires { room ≤ 80 }
 {
-    if hexadecimals::spell(line, frame) {
-        answer_to_frame(frame, area, room)
-    } else {
-        NO_FRAME
-    }
-}
-
-// A frame has 24 bytes of a line of 48 characters, 22 of any other.
-pub(crate) fn answer_as_frame(line: &[u8], area: &mut [u8], room: usize) -> u64
-    requires { room ≤ length area.old }
-{
-    let mut frame = [0u8; 24];
-    if line.len() == 48 {
-        answer_to_spelled(line, &mut frame, area, room)
-    } else {
-        answer_to_spelled(line, &mut frame[..22], area, room)
-    }
+    let mut frame_room = [0; 24];
+    let frame = requests::frame_of(line, &mut frame_room)?;
+    Some(answer_of(room, |area| answer::from_frame(frame, area)))
 }

@@ -1,50 +1,52 @@
 // The figures of a file, each held between two numbers.
-use crate::{answers, printing};
-use vectors::bounds::Held;
-use vectors::judging::FILL;
+use crate::answers;
+use scan::Lines;
+use std::{fmt, io};
 
-fn print_held(name: &[u8], h: Held) {
-    printing::print(name);
-    printing::print_ends(h.lower, h.upper);
-    if h.near {
-        printing::print(b" agrees\n");
-    } else {
-        printing::print(b" departs\n");
-    }
-}
+// An end of a figure, of which 200,000 stands for zero.
+#[derive(Drop)]
+struct End(u64);
 
-// A line's answer, held to the figure of a text.
-fn held(text: &[u8], line: &[u8]) -> Held {
-    let mut area = [FILL; 80];
-    let given = answers::answer_to(line, &mut area, 77);
-    vectors::bounds::hold(text, given, &area)
-}
-
-// A figure: its number, two numbers, a line of 44 characters, and its name.
-fn show_figure(text: &[u8]) -> bool {
-    let from = vectors::bounds::line_at(text);
-    if text.len() - from < 44 {
-        return false;
-    }
-    let end = from + 44;
-    let h = held(text, &text[from..end]);
-    print_held(&text[end..], h);
-    h.near
-}
-
-// How many figures a file has, how many of them lie between their numbers and do not, and the sum of the file's bytes.
-pub(crate) fn show_all(text: &[u8]) -> [u64; 4] {
-    let mut near = 0;
-    let mut far = 0;
-    let mut at = 0;
-    while at < text.len() {
-        let end = scan::line_end(text, at);
-        if show_figure(&text[at..end]) {
-            near = scan::sum(near, 1);
+impl fmt::Display for End {
+    fn fmt<W: fmt::Write>(&self, f: &mut fmt::Formatter<W>) -> fmt::Result {
+        if self.0 < 200_000 {
+            write!(f, "-{}", 200_000 - self.0)
         } else {
-            far = scan::sum(far, 1);
+            write!(f, "{}", self.0 - 200_000)
         }
-        at = end + 1;
     }
-    [scan::sum(near, far), near, far, scan::sums::sum_of(text)]
+}
+
+// Whether a figure agrees: its number, two numbers, a line of 44 characters, and its name.
+fn show(rt: &impl Print, text: &[u8]) -> io::Result<bool> {
+    let line_and_name = vectors::bounds::line_of(text);
+    if line_and_name.len() < 44 {
+        return Ok(false);
+    }
+    let (line, name) = line_and_name.split_at(44);
+    let held = vectors::bounds::hold(text, &answers::to_line(line, 77)).unwrap_or_default();
+    let lower = End(held.ends.lower);
+    let upper = End(held.ends.upper);
+    let said = if held.near { "agrees" } else { "departs" };
+    rt.write_all(name)?;
+    println!(rt; ": {lower}..{upper} {said}")?;
+    Ok(held.near)
+}
+
+// How many figures a file has, how many of them lie between their numbers and how many do not, and the sum of the file's bytes.
+pub(crate) fn show_all(rt: &impl Print, name: &str, text: &[u8]) -> io::Result<()> {
+    let mut agree = 0u64;
+    let mut depart = 0u64;
+    for line in (Lines { rest: text }) {
+        if show(rt, line)? {
+            agree = agree.saturating_add(1);
+        } else {
+            depart = depart.saturating_add(1);
+        }
+    }
+    let figures = agree.saturating_add(depart);
+    let sum = scan::sums::sum_of(text);
+    println!(rt;
+        "{name}: figures {figures}, agree {agree}, depart {depart}; sum of its bytes {sum}"
+    )
 }

@@ -1,180 +1,122 @@
 // The test program: the known cases of document 01 that are not proved, the printed examples, and a separate high-precision calculation held against the answers.
 #![tactic(auto)]
 
-ghost use Rattle.io.specs.Counts.{IsPrefixLen};
-
 mod answers;
 mod figures;
 mod judging;
 mod planting;
-mod printing;
 
+use frame::Refusal;
+use planting::Plant;
+use refusals::Fault;
+use scan::Words;
 use std::fs::File;
-use std::io::Read;
+use std::io;
+use vectors::judging::FILL;
+use vectors::table::Entry;
 
-// Reads until the space is full, the file ends or a read fails, and answers how many bytes it put at the start.
-fn fill(file: &mut File, space: &mut [u8]) -> usize
-    ensures { IsPrefixLen result space.new }
-{
-    let mut done = 0;
-    while done < space.len() {
-        let n = file.read(&mut space[done..]).unwrap_or(0);
-        if n == 0 {
-            return done;
-        }
-        done += n;
-    }
-    done
-}
-
-fn read_file(rt: &HostRuntime, path: &str, space: &mut [u8]) -> usize
-    ensures { IsPrefixLen result space.new }
-{
-    match File::open(rt, path) {
-        Ok(mut file) => fill(&mut file, space),
-        Err(_) => 0,
+// A file of the data, of which there is nothing where it cannot be opened.
+fn load<'a>(rt: &HostRuntime, name: &str, room: &'a mut [u8]) -> &'a [u8] {
+    match File::open(rt, name) {
+        Ok(mut file) => requests::read_all(&mut file, room),
+        Err(_) => &[],
     }
 }
 
-// Reads a file of the data into the space, and answers its length.
-fn load(rt: &HostRuntime, name: &[u8], space: &mut [u8]) -> usize
-    ensures { IsPrefixLen result space.new }
-{
-    match std::str::from_utf8(name) {
-        Ok(path) => read_file(rt, path, space),
-        Err(_) => 0,
-    }
+fn show_figures(rt: &HostRuntime, name: &str) -> io::Result<()> {
+    let mut room = [0; 4096];
+    figures::show_all(rt, name, load(rt, name, &mut room))
 }
 
-fn show_figures(rt: &HostRuntime, name: &[u8]) {
-    let mut space = io::buffer();
-    let n = load(rt, name, &mut space);
-    let counts = figures::show_all(&space[..n]);
-    printing::print_counts(
-        name,
-        b": figures \n, agree \n, depart \n; sum of its bytes ",
-        &counts,
-    );
+fn show_vectors(rt: &HostRuntime, name: &str, table: &[Entry; 108]) -> io::Result<()> {
+    let mut room = [0; 65536];
+    let text = load(rt, name, &mut room);
+    judging::show_all(rt, name, text, false, |vector| {
+        judging::judged(vector, Plant::default(), table)
+    })
 }
 
-fn show_vectors(rt: &HostRuntime, name: &[u8], planted: bool, table: &[u64; 216]) {
-    let mut space = io::large_buffer();
-    let n = load(rt, name, &mut space);
-    let counts = judging::judge_all(&space[..n], planted, table);
-    printing::print_counts(
-        name,
-        b": lines \n, accepted \n, refused \n, answered alike from the frame \n, with a fault \n; sum of its bytes ",
-        &counts,
-    );
+fn show_planted(rt: &HostRuntime, table: &[Entry; 108]) -> io::Result<()> {
+    let mut room = [0; 65536];
+    let text = load(rt, "planted", &mut room);
+    judging::show_all(rt, "planted", text, true, |line| {
+        judging::judged_planted(line, table)
+    })
 }
 
-// Table 3, two words a line: tenths of a percent, probit in hundredths.
-fn table_of(text: &[u8]) -> [u64; 216] {
-    let mut table = [0u64; 216];
-    let mut at = 0;
-    let mut i: usize = 0;
-    while i < 216 {
-        let w = scan::next_word(text, at);
-        table[i] = w.value;
-        at = w.next;
-        i += 1;
+// Table 3, two words an entry.
+fn table_of(text: &[u8]) -> [Entry; 108] {
+    let mut words = Words { rest: text };
+    let mut table = [Entry {
+        tenths: 0,
+        hundredths: 0,
+    }; 108];
+    for entry in &mut table {
+        entry.tenths = words.next_word().value;
+        entry.hundredths = words.next_word().value;
     }
     table
 }
 
-fn show_table(rt: &HostRuntime) -> [u64; 216] {
-    let mut space = io::buffer();
-    let n = load(rt, b"table", &mut space);
-    printing::print_counts(
-        b"table",
-        b"; sum of its bytes ",
-        &[scan::sums::sum_of(&space[..n])],
-    );
-    table_of(&space[..n])
+fn show_table(rt: &HostRuntime) -> io::Result<[Entry; 108]> {
+    let mut room = [0; 4096];
+    let text = load(rt, "table", &mut room);
+    println!(rt; "table; sum of its bytes {}", scan::sums::sum_of(text))?;
+    Ok(table_of(text))
 }
 
 // Table 3 around its ends.
-fn show_readings() {
-    printing::print_counts(
-        b"Table 3",
-        b" at 2669: \n, at 2670: \n, at 8089: \n, at 8090: ",
-        &[
-            damage::damage_at(2669),
-            damage::damage_at(2670),
-            damage::damage_at(8089),
-            damage::damage_at(8090),
-        ],
-    );
+fn show_readings(rt: &HostRuntime) -> io::Result<()> {
+    let [a, b, c, d] = [2669, 2670, 8089, 8090].map(damage::damage_at);
+    println!(rt; "Table 3 at 2669: {a}, at 2670: {b}, at 8089: {c}, at 8090: {d}")
 }
 
 fn is_refused_for_length(frame: &[u8]) -> bool {
-    let mut area = [vectors::judging::FILL; 80];
-    answers::answer_to_frame(frame, &mut area, 80) == 1
+    let mut area = [FILL; 80];
+    matches!(
+        answer::from_frame(frame, &mut area),
+        Err(Refusal::Faulty(Fault::Length))
+    )
 }
 
 // How many of the frames of 0 to 79 bytes are refused for their length.
-fn lengths_refused() -> u64 {
-    let frame = [0u8; 80];
-    let mut refused = 0;
-    let mut n = 0;
-    while n < 80 {
-        if is_refused_for_length(&frame[..n]) {
-            refused = scan::sum(refused, 1);
-        }
-        n += 1;
+fn show_lengths(rt: &HostRuntime) -> io::Result<()> {
+    let frame = [0; 80];
+    let refused = (0..80)
+        .filter(|n| is_refused_for_length(&frame[..*n]))
+        .count();
+    println!(rt; "frames of 0 to 79 bytes, refused for their length: {refused}")
+}
+
+fn main(rt: HostRuntime) -> io::Result<()> {
+    show_readings(&rt)?;
+    show_lengths(&rt)?;
+    let table = show_table(&rt)?;
+    for name in [
+        "known",
+        "examples",
+        "substances",
+        "classes",
+        "branches",
+        "boundaries",
+        "extremes",
+        "refusals",
+        "random",
+        "airs",
+    ] {
+        show_vectors(&rt, name, &table)?;
     }
-    refused
-}
-
-fn show_lengths() {
-    printing::print_counts(
-        b"frames of 0 to 79 bytes",
-        b", refused for their length: ",
-        &[lengths_refused()],
-    );
-}
-
-// What a file holds: vectors, vectors with planted faults, or figures.
-#[derive(Clone, Copy)]
-enum Kind {
-    Vectors,
-    Planted,
-    Figures,
-}
-
-fn show_file(rt: &HostRuntime, name: &[u8], kind: Kind, table: &[u64; 216]) {
-    match kind {
-        Kind::Vectors => show_vectors(rt, name, false, table),
-        Kind::Planted => show_vectors(rt, name, true, table),
-        Kind::Figures => show_figures(rt, name),
+    show_planted(&rt, &table)?;
+    for name in [
+        "near",
+        "far",
+        "printed_003_1",
+        "printed_003_2",
+        "printed_004_80",
+        "printed_004_100",
+        "printed_004_135",
+    ] {
+        show_figures(&rt, name)?;
     }
-}
-
-// The files whose names stand in a text, a line each.
-fn show_files(rt: &HostRuntime, names: &[u8], kind: Kind, table: &[u64; 216]) {
-    let mut at = 0;
-    while at < names.len() {
-        let end = scan::line_end(names, at);
-        show_file(rt, &names[at..end], kind, table);
-        at = end + 1;
-    }
-}
-
-fn main(rt: HostRuntime) {
-    show_readings();
-    show_lengths();
-    let table = show_table(&rt);
-    show_files(
-        &rt,
-        b"known\nexamples\nsubstances\nclasses\nbranches\nboundaries\nextremes\nrefusals\nrandom\nairs",
-        Kind::Vectors,
-        &table,
-    );
-    show_files(&rt, b"planted", Kind::Planted, &table);
-    show_files(
-        &rt,
-        b"near\nfar\nprinted_003_1\nprinted_003_2\nprinted_004_80\nprinted_004_100\nprinted_004_135",
-        Kind::Figures,
-        &table,
-    );
+    Ok(())
 }

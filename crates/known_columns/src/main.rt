@@ -2,195 +2,127 @@
 // Its stored output is that of a separate calculation.
 #![tactic(auto)]
 
-ghost use Rattle.std.specs.Prelude.{◌≡◌, ◌≤◌, length};
+ghost use Rattle.std.specs.Prelude.{◌≤◌, length};
 
 use areas::MARK;
-use places::{Content, Held, Places};
-
-// The standard streams.
-const STDIN: i32 = 0;
-
-const STDOUT: i32 = 1;
+use places::{Held, Places};
+use refusals::Reason;
+use scan::{Lines, Words};
+use sheet_bytes::SIZE;
+use std::io;
 
 // The area that parts are lent of, and the most bytes that are turned back.
 const AREA: usize = 1600;
 
-fn print(text: &[u8]) {
-    io::write_all(STDOUT, text);
-}
-
-fn print_number(n: u64) {
-    io::print_decimal(STDOUT, n);
-}
-
-fn print_part(text: &[u8], n: usize)
-    requires { n ≤ length text.now }
-{
-    print(&text[..n]);
-}
-
 // A, or R and the refusal's number; behind it the digits of what was written into the area.
-fn show_answer(code: u64, area: &[u8; 1600]) {
-    if code == 0 {
-        print(b"A");
-    } else {
-        print(b"R");
-        print_number(code);
+fn show_answer<T: Drop, R: Reason>(
+    rt: &impl Print,
+    answer: Result<T, R>,
+    area: &[u8],
+) -> io::Result<()> {
+    match answer {
+        Ok(_done) => print!(rt; "A")?,
+        Err(r) => print!(rt; "R{}", r.number())?,
     }
-    let mut digits = [0u8; 3200];
-    hexadecimals::write(area, &mut digits);
-    print_part(&digits, 2 * areas::written(area));
+    requests::print_digits(rt, areas::written(area))
 }
 
 // The case of a frame's digits, whatever its fields hold.
-fn content_in(digits: &[u8], frame: &mut [u8]) -> Content
-    requires { (22 ≤ length frame.old) × (length frame.old ≤ 24) }
+fn held_of(digits: &[u8]) -> Option<Held> {
+    let mut room = [0; 24];
+    let frame = requests::frame_of(digits, &mut room)?;
+    Some(Held {
+        case: fields::read(frame),
+        upper: 0,
+    })
+}
+
+// The bytes of the next word; of the last one all that is left.
+fn next_bytes<'a>(words: &mut Words<'a>) -> &'a [u8]
+    ensures { length words.new.rest.now ≤ length words.old.rest.now }
 {
-    if hexadecimals::spell(digits, frame) {
-        let case = fields::read(frame);
-        Content::Taken(Held { case, upper: 0 })
-    } else {
-        Content::Hole
+    let text = words.rest;
+    words.next_word();
+    match words.rest.len() {
+        0 => text,
+        left => &text[..text.len() - left - 1],
     }
 }
 
-fn content_of(digits: &[u8]) -> Content {
-    let mut frame = [0u8; 24];
-    if digits.len() == 48 {
-        content_in(digits, &mut frame)
-    } else {
-        content_in(digits, &mut frame[..22])
-    }
-}
-
-// A number that is no place changes nothing.
-fn put(places: Places, place: u64, digits: &[u8]) -> Places {
-    if place == 0 {
-        return places;
-    }
-    if 64 < place {
-        return places;
-    }
-    places.with(place as usize, content_of(digits))
-}
-
-// Where a word ends behind which the place `next` comes: before a space, or with the text.
-fn word_end(next: usize, size: usize) -> usize
-    ensures { result ≤ next }
-{
-    if next < size && 0 < next {
-        next - 1
-    } else {
-        next
-    }
-}
-
-// The places that a text of places and digits by turns fills.
-fn places_of(text: &[u8]) -> Places {
+// The places that a text of places and digits by turns fills. A number that is no place changes nothing.
+fn places_of(mut words: Words) -> Places {
     let mut places = Places::empty();
-    let mut at = 0;
-    while at < text.len() {
-        let place = scan::next_word(text, at);
-        let from = place.next;
-        let digits = scan::next_word(text, from);
-        let next = digits.next;
-        let end = word_end(next, text.len());
-        if from <= end {
-            places = put(places, place.value, &text[from..end]);
+    while !words.rest.is_empty() {
+        let place = words.next_word().value;
+        let held = held_of(next_bytes(&mut words));
+        if 1 <= place && place <= 64 {
+            places.put(place as usize, held);
         }
-        at = next;
     }
     places
 }
 
-fn store(places: Places, room: usize)
-    requires { room ≤ 1600 }
-{
-    let mut area = [MARK; 1600];
-    let v = archive::store(places, &mut area[..room]);
-    show_answer(columns::code_of_storing(v), &area);
+fn store(rt: &impl Print, places: &Places, room: u64) -> io::Result<()> {
+    let mut area = [MARK; AREA];
+    let stored = archive::store(places, areas::lend(&mut area, room));
+    show_answer(rt, stored, &area)
 }
 
 // The same from the first `told` of its lent bytes.
-fn store_lent(places: Places, told: usize, room: usize)
-    requires { (told ≤ 2048) × (room ≤ 1600) }
-{
-    let mut sheet = [0u8; 2048];
+fn store_lent(rt: &impl Print, places: &Places, told: u64, room: u64) -> io::Result<()> {
+    let mut sheet = [0; SIZE];
     sheet_bytes::pack(&mut sheet, places);
-    let mut area = [MARK; 1600];
-    let code = lent_sheet::store(&sheet[..told], &mut area[..room]);
-    show_answer(code, &area);
+    let mut area = [MARK; AREA];
+    let stored = lent_sheet::store(areas::lend(&mut sheet, told), areas::lend(&mut area, room));
+    show_answer(rt, stored, &area)
 }
 
-fn show_sheet(text: &[u8]) {
-    let told = scan::next_word(text, 0);
-    let room = scan::next_word(text, told.next);
-    let from = room.next;
-    let places = places_of(&text[from..]);
-    let bytes = areas::room_of(room.value, AREA);
-    store(places, bytes);
-    print(b" ");
-    store_lent(places, areas::room_of(told.value, sheet_bytes::SIZE), bytes);
+fn show_sheet(rt: &impl Print, mut words: Words) -> io::Result<()> {
+    let told = words.next_word().value;
+    let room = words.next_word().value;
+    let places = places_of(words);
+    store(rt, &places, room)?;
+    print!(rt; " ")?;
+    store_lent(rt, &places, told, room)
 }
 
 // Bytes to turn back: the first, and others by a rule.
-fn filled(first: u64) -> [u8; 1600]
-    ensures { length result ≡ 1600 }
-{
-    let mut s = [0u8; 1600];
-    for i in 0..1600 {
-        s[i] = ((i * i + i / 7) % 256) as u8;
+fn filled(first: u64) -> [u8; AREA] {
+    let mut bytes = [0; AREA];
+    for (i, byte) in bytes.iter_mut().enumerate() {
+        *byte = ((i * i + i / 7) % 256) as u8;
     }
-    s[0] = (first % 256) as u8;
-    s
+    bytes[0] = (first % 256) as u8;
+    bytes
 }
 
-fn turn_back(first: u64, size: usize, room: usize)
-    requires { (size ≤ 1600) × (room ≤ 1600) }
-{
-    let from = filled(first);
-    let mut area = [MARK; 1600];
-    let v = columns::restore(&from[..size], &mut area[..room]);
-    show_answer(columns::code_of(v), &area);
+fn turn_back(rt: &impl Print, mut words: Words) -> io::Result<()> {
+    let room = words.next_word().value;
+    let mut stored = filled(words.next_word().value);
+    let size = words.next_word().value;
+    let mut area = [MARK; AREA];
+    let restored = columns::restore(areas::lend(&mut stored, size), areas::lend(&mut area, room));
+    show_answer(rt, restored, &area)
 }
 
-fn show_stored(text: &[u8]) {
-    let room = scan::next_word(text, 0);
-    let first = scan::next_word(text, room.next);
-    let size = scan::next_word(text, first.next);
-    turn_back(
-        first.value,
-        areas::room_of(size.value, AREA),
-        areas::room_of(room.value, AREA),
-    );
-}
-
-fn show(number: u64, text: &[u8]) {
-    let word = scan::next_word(text, 0);
-    let from = word.next;
-    print_number(number);
-    print(b" ");
-    if word.lead == b'S' {
-        show_sheet(&text[from..]);
+fn show(rt: &impl Print, number: u64, text: &[u8]) -> io::Result<()> {
+    let mut words = Words { rest: text };
+    let way = words.next_word().lead;
+    print!(rt; "{number} ")?;
+    if way == b'S' {
+        show_sheet(rt, words)?;
     } else {
-        show_stored(&text[from..]);
+        turn_back(rt, words)?;
     }
-    print(b"\n");
+    println!(rt)
 }
 
-fn show_all(text: &[u8]) {
-    let mut number = 0;
-    let mut at = 0;
-    while at < text.len() {
-        let end = scan::line_end(text, at);
-        number = scan::sum(number, 1);
-        show(number, &text[at..end]);
-        at = end + 1;
+fn main(rt: HostRuntime) -> io::Result<()> {
+    let mut room = [0; 65536];
+    let text = requests::read_all(&mut rt.stdin(), &mut room);
+    // here and in no function that takes a closure: `?` ends it plainly
+    for (number, line) in (1..).zip(Lines { rest: text }) {
+        show(&rt, number, line)?;
     }
-}
-
-fn main() {
-    let mut space = io::large_buffer();
-    let n = io::read_full(STDIN, &mut space);
-    show_all(&space[..n]);
+    Ok(())
 }

@@ -2,83 +2,42 @@
 // Its stored output is that of a separate calculation.
 #![tactic(auto)]
 
-ghost use Rattle.std.specs.Prelude.{◌≤◌, length};
-
-use ring::Answer;
-
-// The standard streams.
-const STDIN: i32 = 0;
-
-const STDOUT: i32 = 1;
-
-fn print(text: &[u8]) {
-    io::write_all(STDOUT, text);
-}
-
-fn print_number(n: u64) {
-    io::print_decimal(STDOUT, n);
-}
+use refusals::Reason;
+use requests::OrDash;
+use ring::{Refusal, Ring};
+use scan::{Lines, Words};
+use std::{fmt, io};
 
 // A ring's distances, or R and the refusal's number.
-fn show_answer(a: Answer) {
-    match a {
-        Answer::Ring { inner, outer } => {
-            print_number(inner);
-            print(b"..");
-            print_number(outer);
-        }
-        Answer::Refused(r) => {
-            print(b"R");
-            print_number(ring::number_of(r));
+#[derive(Drop)]
+struct Shown(Result<Ring, Refusal>);
+
+impl fmt::Display for Shown {
+    fn fmt<W: fmt::Write>(&self, f: &mut fmt::Formatter<W>) -> fmt::Result {
+        match self.0 {
+            Ok(Ring { inner, outer }) => write!(f, "{inner}..{outer}"),
+            Err(r) => write!(f, "R{}", r.number()),
         }
     }
 }
 
-// The frame that the line spells, if it spells one.
-fn show_spelled(line: &[u8], frame: &mut [u8], threshold: u64)
-    requires { length frame.old ≤ 24 }
-{
-    if hexadecimals::spell(line, frame) {
-        show_answer(ring::from_frame(frame, threshold));
-    } else {
-        print(b"-");
+fn show(rt: &impl Print, number: u64, text: &[u8]) -> io::Result<()> {
+    let mut words = Words { rest: text };
+    let threshold = words.next_word().value;
+    let line = words.rest;
+    let mut room = [0; 24];
+    let frame = requests::frame_of(line, &mut room);
+    let by_line = Shown(ring::from_line(line, threshold));
+    let by_frame = OrDash(frame.map(|f| Shown(ring::from_frame(f, threshold))));
+    println!(rt; "{number} {by_line} {by_frame}")
+}
+
+fn main(rt: HostRuntime) -> io::Result<()> {
+    let mut room = [0; 65536];
+    let text = requests::read_all(&mut rt.stdin(), &mut room);
+    // here and in no function that takes a closure: `?` ends it plainly
+    for (number, line) in (1..).zip(Lines { rest: text }) {
+        show(&rt, number, line)?;
     }
-}
-
-// A frame has 24 bytes of a line of 48 characters, 22 of any other.
-fn show_frame(line: &[u8], threshold: u64) {
-    let mut frame = [0u8; 24];
-    if line.len() == 48 {
-        show_spelled(line, &mut frame, threshold);
-    } else {
-        show_spelled(line, &mut frame[..22], threshold);
-    }
-}
-
-fn show(number: u64, text: &[u8]) {
-    let threshold = scan::next_word(text, 0);
-    let from = threshold.next;
-    print_number(number);
-    print(b" ");
-    show_answer(ring::from_line(&text[from..], threshold.value));
-    print(b" ");
-    show_frame(&text[from..], threshold.value);
-    print(b"\n");
-}
-
-fn show_all(text: &[u8]) {
-    let mut number = 0;
-    let mut at = 0;
-    while at < text.len() {
-        let end = scan::line_end(text, at);
-        number = scan::sum(number, 1);
-        show(number, &text[at..end]);
-        at = end + 1;
-    }
-}
-
-fn main() {
-    let mut space = io::large_buffer();
-    let n = io::read_full(STDIN, &mut space);
-    show_all(&space[..n]);
+    Ok(())
 }

@@ -2,83 +2,40 @@
 // Its stored output is that of a separate calculation.
 #![tactic(auto)]
 
-ghost use Rattle.std.specs.Prelude.{◌≤◌, length};
-
-use rules::Answer;
-
-// The standard streams.
-const STDIN: i32 = 0;
-
-const STDOUT: i32 = 1;
-
-fn print(text: &[u8]) {
-    io::write_all(STDOUT, text);
-}
-
-fn print_number(n: u64) {
-    io::print_decimal(STDOUT, n);
-}
+use frame::Refusal;
+use refusals::Reason;
+use requests::OrDash;
+use rules::Rules;
+use scan::Lines;
+use std::{fmt, io};
 
 // The rules' numbers, or R and the refusal's number.
-fn show_answer(a: Answer) {
-    match a {
-        Answer::Named(r) => {
-            let pressure = r.pressure;
-            let impulse = r.impulse;
-            print_number(rules::number_of(pressure));
-            print(b",");
-            print_number(rules::number_of(impulse));
-        }
-        Answer::Refused(q) => {
-            print(b"R");
-            print_number(frame::number_of(q));
+#[derive(Drop)]
+struct Shown(Result<Rules, Refusal>);
+
+impl fmt::Display for Shown {
+    fn fmt<W: fmt::Write>(&self, f: &mut fmt::Formatter<W>) -> fmt::Result {
+        match self.0 {
+            Ok(r) => write!(f, "{},{}", r.pressure.number(), r.impulse.number()),
+            Err(r) => write!(f, "R{}", r.number()),
         }
     }
 }
 
-// The frame that the line spells, if it spells one.
-fn show_spelled(line: &[u8], frame: &mut [u8])
-    requires { length frame.old ≤ 24 }
-{
-    if hexadecimals::spell(line, frame) {
-        show_answer(rules::from_frame(frame));
-    } else {
-        print(b"-");
+fn show(rt: &impl Print, number: u64, line: &[u8]) -> io::Result<()> {
+    let mut room = [0; 24];
+    let frame = requests::frame_of(line, &mut room);
+    let by_line = Shown(rules::from_line(line));
+    let by_frame = OrDash(frame.map(|f| Shown(rules::from_frame(f))));
+    println!(rt; "{number} {by_line} {by_frame}")
+}
+
+fn main(rt: HostRuntime) -> io::Result<()> {
+    let mut room = [0; 65536];
+    let text = requests::read_all(&mut rt.stdin(), &mut room);
+    // here and in no function that takes a closure: `?` ends it plainly
+    for (number, line) in (1..).zip(Lines { rest: text }) {
+        show(&rt, number, line)?;
     }
-}
-
-// A frame has 24 bytes of a line of 48 characters, 22 of any other.
-fn show_frame(line: &[u8]) {
-    let mut frame = [0u8; 24];
-    if line.len() == 48 {
-        show_spelled(line, &mut frame);
-    } else {
-        show_spelled(line, &mut frame[..22]);
-    }
-}
-
-fn show(number: u64, line: &[u8]) {
-    print_number(number);
-    print(b" ");
-    show_answer(rules::from_line(line));
-    print(b" ");
-    show_frame(line);
-    print(b"\n");
-}
-
-fn show_all(text: &[u8]) {
-    let mut number = 0;
-    let mut at = 0;
-    while at < text.len() {
-        let end = scan::line_end(text, at);
-        number = scan::sum(number, 1);
-        show(number, &text[at..end]);
-        at = end + 1;
-    }
-}
-
-fn main() {
-    let mut space = io::large_buffer();
-    let n = io::read_full(STDIN, &mut space);
-    show_all(&space[..n]);
+    Ok(())
 }

@@ -2,88 +2,80 @@
 // Every contract gives all that was lent at exit: `Stored l i bs L` says that L is l with the bytes bs stored from index i on (`sets l i bs`).
 #![tactic(auto)]
 
-ghost use Rattle.std.specs.Prelude.{◌≡◌, ◌+◌, ◌^◌, ◌≤◌, ◌<◌, length};
+ghost use Rattle.std.specs.Prelude.{◌≡◌, IsTrue, ◌++◌, ◌*◌, ◌+◌, ◌^◌, ◌≤◌, ◌<◌, length};
 ghost use Rattle.std.proofs.lemmas.List.Edits.{sets};
-ghost use Rattle.std.specs.Int.Signed.{mag};
+ghost use Rattle.byte_numbers.specs.Numbers.{is_size, last_bytes};
 ghost use Rattle.byte_numbers.specs.Storing.{Stored};
-ghost use Rattle.layout.specs.Bytes.{twos, words};
 ghost use Rattle.layout.specs.Fitting.{Fits, Fit};
-ghost use Rattle.layout.specs.Places.{probit_of, wave_bytes, probit_bytes, damage_of, damage_bytes, range_byte, answer_bytes};
+ghost use Rattle.layout.specs.Places.{probit_of, wave_bytes, probit_bytes, damage_bytes, range_byte, answer_bytes};
 
-// The 32 bits of x in two's complement.
-fn bits(x: i64) -> u64
-    requires { mag x < 2 ^ 31 }
-    ensures { result ≡ twos x }
-{
-    if x >= 0 {
-        x as u64
-    } else {
-        let y = x + 0x1_0000_0000;
-        y as u64
+// The two ends of an interval.
+#[derive(Clone, Copy)]
+pub struct Interval<T> {
+    pub lower: T,
+    pub upper: T,
+}
+
+// Of pressure in Pa, of impulse in Pa·s, or of damage in tenths of a percent.
+pub type Ends = Interval<u64>;
+
+// Of a probit, thousandths.
+pub type Probit = Interval<i64>;
+
+// One for each of Pr1 to Pr5, by name: each is of a formula of its own.
+#[derive(Clone, Copy)]
+pub struct Five<T> {
+    pub first: T,
+    pub second: T,
+    pub third: T,
+    pub fourth: T,
+    pub fifth: T,
+}
+
+impl<T> Five<T> {
+    // What a function gives of each.
+    pub fn map<U, F: Fn(T) -> U>(self, f: F) -> Five<U>
+        requires { F.IsAlwaysCallable f }
+        ensures first { F.post f self.first result.first }
+        ensures second { F.post f self.second result.second }
+        ensures third { F.post f self.third result.third }
+        ensures fourth { F.post f self.fourth result.fourth }
+        ensures fifth { F.post f self.fifth result.fifth }
+    {
+        Five {
+            first: f(self.first),
+            second: f(self.second),
+            third: f(self.third),
+            fourth: f(self.fourth),
+            fifth: f(self.fifth),
+        }
     }
 }
 
-// The two ends of an interval: pressure in Pa, impulse in Pa·s, or damage in tenths of a percent.
-#[derive(Clone, Copy)]
-pub struct Ends {
-    pub lower: u64,
-    pub upper: u64,
-}
+pub type Probits = Five<Probit>;
 
-// The two ends of a probit, thousandths.
-#[derive(Clone, Copy)]
-pub struct Probit {
-    pub lower: i64,
-    pub upper: i64,
-}
+// The damages that the probits read.
+pub type Damages = Five<Ends>;
 
-// Pr1 to Pr5.
-#[derive(Clone, Copy)]
-pub struct Probits {
-    pub first: Probit,
-    pub second: Probit,
-    pub third: Probit,
-    pub fourth: Probit,
-    pub fifth: Probit,
-}
-
-// The damages that Pr1 to Pr5 read.
-#[derive(Clone, Copy)]
-pub struct Damages {
-    pub first: Ends,
-    pub second: Ends,
-    pub third: Ends,
-    pub fourth: Ends,
-    pub fifth: Ends,
-}
-
-// The two ends of a damage, two bytes each.
-fn put_damage(s: &mut [u8], at: usize, d: Ends)
-    requires { at + 4 ≤ length s.old }
-    ensures { Stored s.old at (damage_of d) s.new }
+// The two ends of an interval, N bytes each.
+fn put_ends<const N: usize>(s: &mut [u8], at: usize, e: Ends)
+    requires size { IsTrue (is_size N) }
+    requires in_bounds { at + 2 * N ≤ length s.old }
+    ensures { Stored s.old at (last_bytes N e.lower ++ last_bytes N e.upper) s.new }
 {
-    byte_numbers::put_two(s, at, d.lower);
-    byte_numbers::put_two(s, at + 2, d.upper);
+    byte_numbers::put::<N>(s, at, e.lower);
+    byte_numbers::put::<N>(s, at + N, e.upper);
 }
 
-// The two ends of a pressure or an impulse, four bytes each.
-fn put_ends(s: &mut [u8], at: usize, e: Ends)
-    requires { at + 8 ≤ length s.old }
-    ensures { Stored s.old at (words e.lower e.upper) s.new }
-{
-    byte_numbers::put_four(s, at, e.lower);
-    byte_numbers::put_four(s, at + 4, e.upper);
-}
-
-// The two ends of a probit in two's complement, four bytes each.
+// The two ends of a probit in two's complement, four bytes each. That they fit is asked here and above: an interval says nothing of how large its ends are.
 fn put_probit(s: &mut [u8], at: usize, p: Probit)
     requires at_in_bounds { at + 8 ≤ length s.old }
     requires fits { Fits p }
     ensures { Stored s.old at (probit_of p) s.new }
 {
-    let lower = bits(p.lower);
-    let upper = bits(p.upper);
-    put_ends(s, at, Ends { lower, upper });
+    let lower = p.lower.cast_unsigned();
+    let upper = p.upper.cast_unsigned();
+    put_ends::<4>(s, at, Ends { lower, upper });
 }
 
 // Pressure and impulse, into their own part of the area.
@@ -91,8 +83,8 @@ fn put_wave(s: &mut [u8], pressure: Ends, impulse: Ends)
     requires { 16 ≤ length s.old }
     ensures { Stored s.old 0 (wave_bytes pressure impulse) s.new }
 {
-    put_ends(s, 0, pressure);
-    put_ends(s, 8, impulse);
+    put_ends::<4>(s, 0, pressure);
+    put_ends::<4>(s, 8, impulse);
 }
 
 // The five probits, into their own part of the area.
@@ -113,11 +105,11 @@ fn put_damages(s: &mut [u8], d: Damages)
     requires { 20 ≤ length s.old }
     ensures { Stored s.old 0 (damage_bytes d) s.new }
 {
-    put_damage(s, 0, d.first);
-    put_damage(s, 4, d.second);
-    put_damage(s, 8, d.third);
-    put_damage(s, 12, d.fourth);
-    put_damage(s, 16, d.fifth);
+    put_ends::<2>(s, 0, d.first);
+    put_ends::<2>(s, 4, d.second);
+    put_ends::<2>(s, 8, d.third);
+    put_ends::<2>(s, 12, d.fourth);
+    put_ends::<2>(s, 16, d.fifth);
 }
 
 // The range, one byte.

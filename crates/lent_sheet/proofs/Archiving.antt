@@ -3,7 +3,8 @@ use Prim.Native.Nat.{ℕ, ◌≤◌, ◌<◌}
 use mathlib.Core.Path.{◌≡◌, refl, sym, ap, ◌∙◌}
 use mathlib.Core.Bool.{Bool, true, false, cond}
 use mathlib.Core.List.{List}
-use mathlib.Core.Option.{Option, none, some}
+use mathlib.Core.Option.{none, some}
+use Rattle.std.specs.Prelude.{Option, Result, Ok, Err}
 use lib.Dec.{ltb}
 use lib.ListN.{length}
 use lib.Seq.{sets}
@@ -12,9 +13,8 @@ use Rattle.refusals.specs.Order.{first_of}
 use Rattle.places.specs.declared.Held.{Held}
 use Rattle.places.specs.declared.Places.{Places}
 use Rattle.places.specs.Holes.{trim}
-use Rattle.places.specs.Places.{contents, stands_for}
-use Rattle.columns.specs.declared.Storing.{Storing}
-use Rattle.columns.specs.declared.Storing.TheVariants.{Written, Space}
+use Rattle.places.specs.Places.{stands_for}
+use Rattle.columns.specs.declared.Shortage.{Shortage}
 use Rattle.columns.specs.Refusals.{storing_code}
 use Rattle.columns.specs.Stored.{Stores}
 use Rattle.archive.specs.Archived.{archived}
@@ -29,11 +29,11 @@ short_archive s area h =
     record { returned = rw first refl; area = rw first refl }
 
 -- the list that unpacked places stand for
-pub unpacked_list : (s : List ℕ) (places : Places) → size ≤ length s → contents places ≡ unpacked 64 s → stands_for places ≡ lent s
+pub unpacked_list : (s : List ℕ) (places : Places) → size ≤ length s → places.all ≡ unpacked 64 s → stands_for places ≡ lent s
 unfolding stands_for
 unpacked_list s places room e = ap trim e ∙ sym (enough_lent s room)
 
-pub archive_stored : {s area : List ℕ} {xs : List (Option Held)} {v : Storing} {n : ℕ} {after : List ℕ} → size ≤ length s → xs ≡ lent s → Stores (archived xs) area v after → n ≡ storing_code v
+pub archive_stored : {s area : List ℕ} {xs : List (Option Held)} {v : Result ℕ Shortage} {n : ℕ} {after : List ℕ} → size ≤ length s → xs ≡ lent s → Stores (archived xs) area v after → n ≡ storing_code v
     → Archives s area n after
 unfolding archive_tests first_of
 archive_stored {s} {area} {xs} {v} {n} {after} room same w e = go (ltb (length area) (length bytes)) refl w.verdict w.area
@@ -41,7 +41,7 @@ archive_stored {s} {area} {xs} {v} {n} {after} room same w e = go (ltb (length a
     bytes : List ℕ
     bytes = archived xs
 
-    go : (b : Bool) → ltb (length area) (length bytes) ≡ b → v ≡ cond b Space (Written (length bytes)) → after ≡ cond b area (sets area 0 bytes) → Archives s area n after
+    go : (b : Bool) → ltb (length area) (length bytes) ≡ b → v ≡ cond b (Err (record {})) (Ok (length bytes)) → after ≡ cond b area (sets area 0 bytes) → Archives s area n after
     go true few verdict stands =
         let first : first_of (archive_tests s (length area)) ≡ some space = simp (le-ltb (length s) size room, ← same, few) in
         record { returned = rw first (e ∙ ap storing_code verdict); area = rw first stands }

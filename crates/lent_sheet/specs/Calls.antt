@@ -1,7 +1,8 @@
 -- What the calls on a lent sheet promise: one number, and every lent byte (request 7); its totals (request 8); frames of both lengths (request 11);
 -- its cases stored by column (request 12).
-use Rattle.std.specs.Prelude.{ℕ, ◌+◌, ◌≡◌, List, [], ◌∷◌, ◌++◌, length, ltb}
-use Rattle.std.proofs.Math.Option.{Option, none, some}
+use Rattle.std.specs.Prelude.{ℕ, ◌+◌, ◌≡◌, List, [], ◌∷◌, ◌++◌, length, ltb, Option, None, Some}
+use Rattle.std.proofs.Math.Option as maybe
+use Rattle.std.proofs.Math.Option.{none, some}
 use Rattle.std.proofs.lemmas.List.Edits.{sets}
 use Rattle.refusals.specs.Order.{Test, ◌when◌, first_of, held}
 use Rattle.fields.specs.Bytes.{fields_of, frame_bytes}
@@ -14,7 +15,6 @@ use Rattle.totals.specs.Totals.{totals_of}
 use Rattle.columns.specs.Stored.{with_bytes}
 use Rattle.archive.specs.Archived.{archived}
 use Rattle.sheet.specs.declared.Refusal.TheVariants.{Full}
-use Rattle.sheet.specs.declared.Vacancy.TheVariants.{Vacant}
 use Rattle.sheet.specs.Refusals.{number, vacancy_number}
 use Rattle.sheet.specs.Tests.{full, own_tests}
 use Rattle.sheet.specs.Ends.{UpperEnd}
@@ -39,7 +39,7 @@ operation close = sheet.close
 
 -- the tests, by the refusals' numbers: 1 to 7 of a case that is added, then 8 of the lent sheet, then 17 or 18
 abbrev pub place_tests : (place : ℕ) (s : List ℕ) → List (Test ℕ)
-place_tests k s = (space when short s) ∷ (vacancy_number Vacant when vacant (at (lent s) k)) ∷ []
+place_tests k s = (space when short s) ∷ (vacancy_number (record {}) when vacant (at (lent s) k)) ∷ []
 
 unfoldable pub tests : Change → (s : List ℕ) → List (Test ℕ)
 tests (add frame u) s =
@@ -49,20 +49,20 @@ tests close s = (space when short s) ∷ []
 
 -- the bytes of the frame that is read at a place
 abbrev pub frame_length : Option Held → ℕ
-frame_length none = 0
-frame_length (some h) = length (frame_bytes h.case)
+frame_length None = 0
+frame_length (Some h) = length (frame_bytes h.case)
 
 -- of reading a case, and last 8 of the area
 unfoldable pub show_tests : (place : ℕ) (s : List ℕ) (room : ℕ) → List (Test ℕ)
 show_tests k s room = place_tests k s ++ (space when ltb room (frame_length (at (lent s) k))) ∷ []
 
 -- 0, or the number of the first test that applies
-abbrev pub code : Option ℕ → ℕ
+abbrev pub code : maybe.Option ℕ → ℕ
 code none = 0
 code (some n) = n
 
 -- the sheet's bytes after an accepted call, those behind it as they were; a refusal leaves all
-abbrev pub left : Option ℕ → (before : List ℕ) → List (Option Held) → List ℕ
+abbrev pub left : maybe.Option ℕ → (before : List ℕ) → List (Option Held) → List ℕ
 left none before xs = sets before 0 (sheet_bytes xs)
 left (some n) before xs = before
 
@@ -71,7 +71,7 @@ pub record Acts (c : Change) (before : List ℕ) (n : ℕ) (after : List ℕ) : 
   pub bytes : after ≡ left (first_of (tests c before)) before (act (lent before) (operation c)).list
 
 -- the place is told; a refusal leaves the number as it was
-abbrev pub told : Option ℕ → (before place : ℕ) → ℕ
+abbrev pub told : maybe.Option ℕ → (before place : ℕ) → ℕ
 told none before k = k
 told (some n) before k = before
 
@@ -83,9 +83,9 @@ pub record Adds (frame before : List ℕ) (place n : ℕ) (after : List ℕ) (pl
   pub place_is : place_after ≡ told (first_of (tests (add frame upper) before)) place (length (lent before) + 1)
 
 -- the frame of the case into the area's first bytes; a refusal leaves all, and a place without a case is refused
-abbrev pub shown : Option ℕ → (area : List ℕ) → Option Held → List ℕ
-shown none area (some h) = sets area 0 (frame_bytes h.case)
-shown none area none = area
+abbrev pub shown : maybe.Option ℕ → (area : List ℕ) → Option Held → List ℕ
+shown none area (Some h) = sets area 0 (frame_bytes h.case)
+shown none area None = area
 shown (some n) area x = area
 
 pub record Shows (k : ℕ) (sheet before : List ℕ) (n : ℕ) (after : List ℕ) : Type 0 where

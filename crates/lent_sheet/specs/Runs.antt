@@ -1,12 +1,10 @@
 -- A sequence of calls on lent bytes, each on the bytes that the one before it left, and what the caller is told (request 7).
-use Rattle.std.specs.Prelude.{ℕ, zero, suc, List, [], ◌∷◌, replicate}
-use Rattle.std.proofs.Math.Option.{Option}
+use Rattle.std.specs.Prelude.{ℕ, zero, suc, List, [], ◌∷◌, replicate, Option, Result, Ok, Err}
 use Rattle.std.proofs.lemmas.List.Edits.{sets}
 use Rattle.fields.specs.Bytes.{frame_bytes}
 use Rattle.places.specs.declared.Held.{Held}
-use Rattle.sheet.specs.declared.Placing.TheVariants as placing
-use Rattle.sheet.specs.declared.Found.{Found}
-use Rattle.sheet.specs.declared.Found.TheVariants as there
+use Rattle.guidance.specs.declared.Case.{Case}
+use Rattle.sheet.specs.declared.Vacancy.{Vacancy}
 use Rattle.sheet.specs.Refusals.{number, vacancy_number}
 use Rattle.sheet.specs.Operations as sheet
 use Rattle.sheet.specs.Operations.{Operation, Told, act, found}
@@ -54,15 +52,15 @@ pub data Run : (s : List ℕ) (operations : List Operation) (replies : List Repl
 
 -- the same of a plain list with holes: what its answers tell a caller
 abbrev pub telling : Told → Reply
-telling (sheet.placing (placing.At k)) = placed k
-telling (sheet.placing (placing.Refused r)) = refused (number r)
-telling (sheet.finding (there.Held c)) = done
-telling (sheet.finding (there.Refused v)) = refused (vacancy_number v)
+telling (sheet.placing (Ok k)) = placed k
+telling (sheet.placing (Err r)) = refused (number r)
+telling (sheet.finding (Ok c)) = done
+telling (sheet.finding (Err v)) = refused (vacancy_number v)
 telling (sheet.counting n) = done
 
-abbrev pub showing : Found → Reply
-showing (there.Held c) = shows (sets blank 0 (frame_bytes c))
-showing (there.Refused v) = refused (vacancy_number v)
+abbrev pub showing : Result Case Vacancy → Reply
+showing (Ok c) = shows (sets blank 0 (frame_bytes c))
+showing (Err v) = refused (vacancy_number v)
 
 unfoldable pub reply_of : List (Option Held) → Operation → Reply
 reply_of xs (sheet.add_frame frame u) = telling (act xs (sheet.add_frame frame u)).told

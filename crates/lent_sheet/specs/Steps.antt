@@ -1,8 +1,14 @@
--- What a step of adding promises the call.
-use Rattle.std.specs.Prelude.{ℕ, ◌<◌, List, length}
-use Rattle.sheet_bytes.specs.Packing.{size}
-use Rattle.lent_sheet.specs.Calls.{Adds}
+-- What the calls promise in Rust: the number of what they answer, and the numbers that a caller lends for it.
+use Rattle.std.specs.Prelude.{ℕ, List, Result}
+use Rattle.totals.specs.declared.Totals.{Totals}
+use Rattle.lent_sheet.specs.declared.Refusal.{Refusal}
+use Rattle.lent_sheet.specs.Refusals.{code, place_after, total_after}
+use Rattle.lent_sheet.specs.Calls.{Adds, Totalled}
 
--- the number that adding returns, of any sheet that is too short
-abbrev pub AddsNowhere : (frame : List ℕ) (n : ℕ) → Type 0
-AddsNowhere frame n = (s : List ℕ) (place : ℕ) → length s < size → Adds frame s place n s place
+abbrev pub AddsTo : (frame before : List ℕ) → Result ℕ Refusal → (after : List ℕ) → Type 0
+AddsTo frame before answer after = (place : ℕ) → Adds frame before place (code answer) after (place_after answer place)
+
+abbrev pub TotalsOf : (s : List ℕ) → Result Totals Refusal → Type 0
+TotalsOf s answer =
+    (count greatest place : ℕ) →
+    Totalled s count greatest place (code answer) (total_after (λ t. t.cases) answer count) (total_after (λ t. t.greatest) answer greatest) (total_after (λ t. t.place) answer place)

@@ -2,142 +2,160 @@
 // Each call unpacks the sheet, acts on it and packs it again; a refusal changes nothing that is lent.
 #![tactic(auto)]
 
-ghost use Rattle.std.specs.Prelude.{◌≡◌, ◌≤◌, length};
+ghost use Rattle.std.specs.Prelude.{◌≡◌, ◌≤◌, ◌<◌, length, MatchResult};
 ghost use Rattle.sheet_bytes.specs.Packing.{size, lent};
 ghost use Rattle.sheet.specs.Operations.{list_of};
-ghost use Rattle.lent_sheet.specs.Calls.{withdraw as withdrawing, close as closing, Adds, Acts, Shows, Totalled, Archives};
-ghost use Rattle.lent_sheet.specs.Steps.{AddsNowhere};
+ghost use Rattle.lent_sheet.specs.declared.Refusal.TheVariants.{Unadded, Vacant, Space};
+ghost use Rattle.lent_sheet.specs.Refusals.{number, word, told, code};
+ghost use Rattle.lent_sheet.specs.Calls.{withdraw as withdrawing, close as closing, Acts, Shows, Archives};
+ghost use Rattle.lent_sheet.specs.Steps.{AddsTo, TotalsOf};
 
-use sheet::{Found, Placing, Sheet};
+use columns::Shortage;
+use refusals::Reason;
+use sheet::{Sheet, Vacancy};
 use sheet_bytes::SIZE;
 use totals::Totals;
 
-// Too few bytes are lent.
-const SPACE: u64 = 8;
+// Why a call is refused: a case is not added, a place holds none, or too few bytes are lent, 8.
+#[derive(Clone, Copy, Debug, PartialEq, Eq)]
+pub enum Refusal {
+    Unadded(sheet::Refusal),
+    Vacant,
+    Space,
+}
+
+impl From<sheet::Refusal> for Refusal {
+    ghost from_gives = { λ q r. r ≡ Unadded q };
+
+    fn from(q: sheet::Refusal) -> Refusal {
+        Refusal::Unadded(q)
+    }
+}
+
+impl From<Vacancy> for Refusal {
+    ghost from_gives = { λ v r. r ≡ Vacant };
+
+    fn from(_: Vacancy) -> Refusal {
+        Refusal::Vacant
+    }
+}
+
+impl From<Shortage> for Refusal {
+    ghost from_gives = { λ s r. r ≡ Space };
+
+    fn from(_: Shortage) -> Refusal {
+        Refusal::Space
+    }
+}
+
+impl Reason for Refusal {
+    ghost number_told = { number };
+
+    ghost word_told = { word };
+
+    ghost tells = { told };
+
+    fn number(self) -> u64 {
+        match self {
+            Refusal::Unadded(r) => r.number(),
+            Refusal::Vacant => Vacancy.number(),
+            Refusal::Space => Shortage.number(),
+        }
+    }
+
+    fn word(self) -> [u8; 12] {
+        match self {
+            Refusal::Unadded(r) => r.word(),
+            Refusal::Vacant => Vacancy.word(),
+            Refusal::Space => Shortage.word(),
+        }
+    }
+}
+
+// Whether a sheet's bytes are lent.
+fn enough(s: &[u8]) -> Result<(), Refusal>
+    ensures { MatchResult result (λ _. size ≤ length s.now) (λ r. (r ≡ Space) × (length s.now < size)) }
+{
+    if s.len() < SIZE {
+        return Err(Refusal::Space);
+    }
+    Ok(())
+}
 
 // The sheet that lent bytes stand for. Its totals are not worked, since no call but the last shows them.
 fn read(s: &[u8]) -> Sheet
     requires { size ≤ length s.now }
     ensures { list_of result ≡ lent s.now }
 {
-    let places = sheet_bytes::unpack(s);
-    let totals = Totals::none();
-    Sheet { places, totals }
-}
-
-// The number of a call that adds where too few bytes are lent: tests 1 to 7 come before 8.
-fn refused_short(frame: &[u8]) -> u64
-    ensures { AddsNowhere frame.now result }
-{
-    let empty = Sheet::empty();
-    let added = empty.add_frame(frame);
-    let answer = added.answer;
-    match answer {
-        Placing::Refused(r) => sheet::number_of(r),
-        Placing::At(_) => SPACE,
+    Sheet {
+        places: sheet_bytes::unpack(s),
+        totals: Totals::none(),
     }
 }
 
-// The case of a frame's bytes, right after the last one.
-pub fn add(s: &mut [u8], frame: &[u8], place: &mut u64) -> u64
-    ensures { Adds frame.now s.old place.old result s.new place.new }
+// The case of a frame's bytes, right after the last one; its place.
+pub fn add(s: &mut [u8], frame: &[u8]) -> Result<usize, Refusal>
+    ensures { AddsTo frame.now s.old result s.new }
 {
     if s.len() < SIZE {
-        return refused_short(frame);
+        // tests 1 to 7, which an empty sheet has alone, come before 8
+        Sheet::empty().add_frame(frame)?;
+        return Err(Refusal::Space);
     }
-    let before = read(s);
-    let added = before.add_frame(frame);
-    let answer = added.answer;
-    let after = added.sheet;
-    match answer {
-        Placing::Refused(r) => sheet::number_of(r),
-        Placing::At(k) => {
-            sheet_bytes::pack(s, after.places);
-            *place = k as u64;
-            0
-        }
-    }
+    let mut sheet = read(s);
+    let place = sheet.add_frame(frame)?;
+    sheet_bytes::pack(s, &sheet.places);
+    Ok(place)
 }
 
 // The case at a place goes and leaves a gap.
-pub fn withdraw(s: &mut [u8], place: u64) -> u64
-    ensures { Acts (withdrawing place) s.old result s.new }
+pub fn withdraw(s: &mut [u8], place: u64) -> Result<(), Refusal>
+    ensures { Acts (withdrawing place) s.old (code result) s.new }
 {
-    if s.len() < SIZE {
-        return SPACE;
-    }
-    let before = read(s);
-    let withdrawn = before.withdraw(place as usize);
-    let answer = withdrawn.answer;
-    let after = withdrawn.sheet;
-    match answer {
-        Found::Refused(v) => sheet::number_of_vacancy(v),
-        Found::Held(_) => {
-            sheet_bytes::pack(s, after.places);
-            0
-        }
-    }
+    enough(s)?;
+    let mut sheet = read(s);
+    sheet.withdraw(place as usize)?;
+    sheet_bytes::pack(s, &sheet.places);
+    Ok(())
 }
 
 // The gaps go.
-pub fn close(s: &mut [u8]) -> u64
-    ensures { Acts closing s.old result s.new }
+pub fn close(s: &mut [u8]) -> Result<(), Refusal>
+    ensures { Acts closing s.old (code result) s.new }
 {
-    if s.len() < SIZE {
-        return SPACE;
-    }
-    let before = read(s);
-    let closed = before.close();
-    let after = closed.sheet;
-    sheet_bytes::pack(s, after.places);
-    0
+    enough(s)?;
+    let mut sheet = read(s);
+    sheet.close();
+    sheet_bytes::pack(s, &sheet.places);
+    Ok(())
 }
 
 // The frame of the case at a place, into the area's first bytes.
-pub fn case_at(s: &[u8], place: u64, area: &mut [u8]) -> u64
-    ensures { Shows place s.now area.old result area.new }
+pub fn case_at(s: &[u8], place: u64, area: &mut [u8]) -> Result<(), Refusal>
+    ensures { Shows place s.now area.old (code result) area.new }
 {
-    if s.len() < SIZE {
-        return SPACE;
+    enough(s)?;
+    let case = read(s).case_at(place as usize)?;
+    if area.len() < fields::size_of(case) {
+        return Err(Refusal::Space);
     }
-    let sheet = read(s);
-    let found = sheet.case_at(place as usize);
-    match found {
-        Found::Refused(v) => sheet::number_of_vacancy(v),
-        Found::Held(c) => {
-            if area.len() < fields::size_of(c) {
-                return SPACE;
-            }
-            fields::write(area, c);
-            0
-        }
-    }
+    fields::write(area, case);
+    Ok(())
 }
 
 // The number of cases, the greatest upper end in Pa, and the first place that has it, 0 for none.
-pub fn totals(s: &[u8], count: &mut u64, greatest: &mut u64, place: &mut u64) -> u64
-    ensures { Totalled s.now count.old greatest.old place.old result count.new greatest.new place.new }
+pub fn totals(s: &[u8]) -> Result<Totals, Refusal>
+    ensures { TotalsOf s.now result }
 {
-    if s.len() < SIZE {
-        return SPACE;
-    }
-    let sheet = read(s);
-    let places = sheet.places;
-    let all = totals::afresh(places);
-    *count = all.cases as u64;
-    *greatest = all.greatest;
-    *place = all.place as u64;
-    0
+    enough(s)?;
+    Ok(totals::afresh(&sheet_bytes::unpack(s)))
 }
 
 // The frames of the cases by column, into the area's first bytes.
-pub fn store(s: &[u8], area: &mut [u8]) -> u64
-    ensures { Archives s.now area.old result area.new }
+pub fn store(s: &[u8], area: &mut [u8]) -> Result<(), Refusal>
+    ensures { Archives s.now area.old (code result) area.new }
 {
-    if s.len() < SIZE {
-        return SPACE;
-    }
-    let places = sheet_bytes::unpack(s);
-    let v = archive::store(places, area);
-    columns::code_of_storing(v)
+    enough(s)?;
+    archive::store(&sheet_bytes::unpack(s), area)?;
+    Ok(())
 }

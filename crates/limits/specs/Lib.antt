@@ -1,3 +1,4 @@
+pub mod Checked
 pub mod Tests
 pub mod Checks
 pub mod laws

@@ -8,20 +8,15 @@ ghost use Rattle.limits.specs.Checks.{values_checked, heat_checked, case_checked
 use guidance::Case;
 use refusals::Fault;
 
-// What the tests of a case alone make of it.
-#[derive(Clone, Copy)]
-pub enum Checked {
-    Sound(Case),
-    Unsound(Fault),
-}
-
 // Whether x is none of the values least to most.
 pub fn is_outside(least: u64, most: u64, x: u64) -> bool
     ensures { result ≡ outside least most x }
 {
-    if least <= x { !(x <= most) } else { true }
+    !(least..=most).contains(&x)
 }
 
+// Joined by `|`: no branch waits for a comparison.
+#[tactic(auto, unfolding(crate::specs::Tests::quantity_outside))]
 fn quantity_outside(c: Case) -> bool
     ensures { result ≡ quantity_outside c }
 {
@@ -31,10 +26,8 @@ fn quantity_outside(c: Case) -> bool
     let heat = is_outside(0, 150000, c.heat);
     let distance = is_outside(1, 1000000, c.distance);
     let body = is_outside(1, 500, c.body);
-    if refusals::any_of(mass, mean, stoichiometric, heat, distance, body) {
-        return true;
-    }
-    is_outside(5000, 11000, c.air)
+    let air = is_outside(5000, 11000, c.air);
+    mass | mean | stoichiometric | heat | distance | body | air
 }
 
 // Test 6: heat 0, and the substance has none of its own.
@@ -45,49 +38,45 @@ fn heat_missing(c: Case) -> bool
 }
 
 // Tests 3 to 5.
-pub fn check_values(c: Case) -> Checked
+#[tactic(auto, unfolding(crate::specs::Tests::value_tests, refusals::specs::Order::first_of))]
+pub fn check_values(c: Case) -> Result<Case, Fault>
     ensures { result ≡ values_checked c }
 {
     if is_outside(0, 75, c.substance) {
-        return Checked::Unsound(Fault::Substance);
+        return Err(Fault::Substance);
     }
     if is_outside(0, 1, c.state) {
-        return Checked::Unsound(Fault::State);
+        return Err(Fault::State);
     }
     if is_outside(0, 1, c.placement) {
-        return Checked::Unsound(Fault::Placement);
+        return Err(Fault::Placement);
     }
     if is_outside(1, 4, c.surroundings) {
-        return Checked::Unsound(Fault::Surroundings);
+        return Err(Fault::Surroundings);
     }
     if quantity_outside(c) {
-        return Checked::Unsound(Fault::Quantity);
+        return Err(Fault::Quantity);
     }
-    Checked::Sound(c)
+    Ok(c)
 }
 
 // What tests 3 to 5 found stands; then a heat that was given and lost is refused under 5; else test 6 decides.
-pub fn check_heat(s: Checked, lost: bool) -> Checked
-    ensures { result ≡ heat_checked lost s }
+pub fn check_heat(found: Result<Case, Fault>, lost: bool) -> Result<Case, Fault>
+    ensures { result ≡ heat_checked lost found }
 {
-    match s {
-        Checked::Unsound(f) => Checked::Unsound(f),
-        Checked::Sound(c) => {
-            if lost {
-                return Checked::Unsound(Fault::Quantity);
-            }
-            if heat_missing(c) {
-                return Checked::Unsound(Fault::Heat);
-            }
-            Checked::Sound(c)
-        }
+    let c = found?;
+    if lost {
+        return Err(Fault::Quantity);
     }
+    if heat_missing(c) {
+        return Err(Fault::Heat);
+    }
+    Ok(c)
 }
 
 // Tests 3 to 6.
-pub fn check(c: Case) -> Checked
+pub fn check(c: Case) -> Result<Case, Fault>
     ensures { result ≡ case_checked c }
 {
-    let s = check_values(c);
-    check_heat(s, false)
+    check_heat(check_values(c), false)
 }

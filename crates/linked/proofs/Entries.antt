@@ -2,7 +2,7 @@
 use Prim.Native.Nat.{ℕ}
 use mathlib.Core.Path.{◌≡◌, ap, subst, ◌∙◌}
 use mathlib.Core.List.{List}
-use Rattle.frame.specs.declared.Verdict.{Verdict}
+use Rattle.frame.specs.Verdict.{Verdict}
 use Rattle.answer.specs.Answer.{Answered}
 use Rattle.frame.specs.Refusals.{code}
 use Rattle.linked.specs.Codes.{Entered}

@@ -3,7 +3,7 @@ use Prim.Native.Nat.{ℕ}
 use mathlib.Core.Path.{◌≡◌, ap, ◌∙◌}
 use mathlib.Core.List.{List}
 use Rattle.guidance.specs.declared.Case.{Case}
-use Rattle.writable.specs.declared.Verdict.{Verdict}
+use Rattle.writable.specs.Verdict.{Verdict}
 use Rattle.writable.specs.Refusals.{code}
 use Rattle.writable.specs.Writing.{with_text, Writes}
 use Rattle.linked.specs.Writings.{WroteCase}

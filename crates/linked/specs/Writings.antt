@@ -1,7 +1,7 @@
 -- What the entries for C that write a case promise: the verdict as one number, and every byte of the area as the verdict says (requests 9 and 11).
 use Rattle.std.specs.Prelude.{ℕ, ◌≡◌, List}
 use Rattle.guidance.specs.declared.Case.{Case}
-use Rattle.writable.specs.declared.Verdict.{Verdict}
+use Rattle.writable.specs.Verdict.{Verdict}
 use Rattle.writable.specs.Refusals.{code}
 use Rattle.writable.specs.Writing.{with_text}
 

@@ -1,4 +1,5 @@
 // The entries for C and other languages: answers into a lent area, single figures, rings, rules, the old form's lines, frames and spellings that are written, a study sheet, and its cases stored by column. The crate linked_c exports them.
+// They answer codes and write into lent numbers, since that is what C takes: 0, or a refusal's number.
 #![tactic(auto)]
 
 ghost use Rattle.std.specs.Prelude.{length};
@@ -9,9 +10,9 @@ ghost use Rattle.blast.specs.WaveEnds.{WaveEnds};
 ghost use Rattle.guidance.specs.AirPressure.{air_of};
 ghost use Rattle.guidance.specs.Cases.{Accepted};
 
-use frame::Verdict;
 use guidance::Case;
 use layout::Ends;
+use refusals::Reason;
 
 pub mod old_lines;
 pub mod reasons;
@@ -23,19 +24,17 @@ pub mod writings;
 pub fn yakepuhi_from_frame(frame: &[u8], area: &mut [u8]) -> u64
     ensures { Entered (frame_verdict frame.now (length area.old)) result area.old area.new }
 {
-    let v = answer::from_frame(frame, area);
-    frame::code_of(v)
+    refusals::code_of(answer::from_frame(frame, area))
 }
 
 // A case given as a line of hexadecimal digits.
 pub fn yakepuhi_from_line(line: &[u8], area: &mut [u8]) -> u64
     ensures { Entered (line_verdict line.now (length area.old)) result area.old area.new }
 {
-    let v = answer::from_line(line, area);
-    frame::code_of(v)
+    refusals::code_of(answer::from_line(line, area))
 }
 
-// A figure of the wave.
+// A figure of the wave: a name and no closure, since the promise is of that figure.
 #[derive(Clone, Copy)]
 enum Figure {
     Overpressure,
@@ -58,10 +57,9 @@ fn ends_of(figure: Figure, c: Case) -> Ends
 fn figure_alone(frame: &[u8], figure: Figure, lower: &mut u64, upper: &mut u64) -> u64
     ensures { FigureAnswered (figure_of figure) frame.now lower.old upper.old result lower.new upper.new }
 {
-    let v = frame::decide_frame(frame, frame::ANSWER);
-    match v {
-        Verdict::Refused(r) => frame::number_of(r),
-        Verdict::Accepted(c) => {
+    match frame::decide_frame(frame, frame::ANSWER) {
+        Err(r) => r.number(),
+        Ok(c) => {
             let e = ends_of(figure, c);
             *lower = e.lower;
             *upper = e.upper;

@@ -1,21 +1,21 @@
 // Why a figure is what it is, for C and other languages.
 ghost use Rattle.linked.specs.Reasons.{Given, Reasoned};
 
-use rules::Answer;
+use frame::Refusal;
+use refusals::Reason;
+use rules::Rules;
 
 // The rules' numbers into the two, or a refusal's number.
-fn tell(a: Answer, pressure: &mut u64, impulse: &mut u64) -> u64
-    ensures { Given a pressure.old impulse.old result pressure.new impulse.new }
+fn tell(answer: Result<Rules, Refusal>, pressure: &mut u64, impulse: &mut u64) -> u64
+    ensures { Given answer pressure.old impulse.old result pressure.new impulse.new }
 {
-    match a {
-        Answer::Named(r) => {
-            let first = r.pressure;
-            let second = r.impulse;
-            *pressure = rules::number_of(first);
-            *impulse = rules::number_of(second);
+    match answer {
+        Ok(rules) => {
+            *pressure = rules.pressure.number();
+            *impulse = rules.impulse.number();
             0
         }
-        Answer::Refused(q) => frame::number_of(q),
+        Err(r) => r.number(),
     }
 }
 
@@ -23,6 +23,5 @@ fn tell(a: Answer, pressure: &mut u64, impulse: &mut u64) -> u64
 pub fn yakepuhi_rules(frame: &[u8], pressure: &mut u64, impulse: &mut u64) -> u64
     ensures { Reasoned frame.now pressure.old impulse.old result pressure.new impulse.new }
 {
-    let a = rules::from_frame(frame);
-    tell(a, pressure, impulse)
+    tell(rules::from_frame(frame), pressure, impulse)
 }

@@ -37,19 +37,19 @@ pub fn yakepuhi_frame_from_fields(
         body,
         air,
     };
-    writable::code_of(writing::from_fields(c, area))
+    refusals::code_of(writing::from_fields(c, area))
 }
 
 // The spelling of a case given as a frame's bytes.
 pub fn yakepuhi_spell_frame(frame: &[u8], area: &mut [u8]) -> u64
     ensures { WroteCase spelling (frame_verdict frame.now (length area.old)) area.old result area.new }
 {
-    writable::code_of(writing::spell_frame(frame, area))
+    refusals::code_of(writing::spell_frame(frame, area))
 }
 
 // The spelling of a case given as a line.
 pub fn yakepuhi_spell_line(line: &[u8], area: &mut [u8]) -> u64
     ensures { WroteCase spelling (line_verdict line.now (length area.old)) area.old result area.new }
 {
-    writable::code_of(writing::spell_line(line, area))
+    refusals::code_of(writing::spell_line(line, area))
 }

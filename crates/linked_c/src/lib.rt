@@ -1,4 +1,5 @@
 // The entries for C and other languages: answers into a lent area, single figures, rings, rules, the old form's lines, frames and spellings that are written, a study sheet, and its cases stored by column.
+// One line each: no crate may stand on a static library, so what the laws of numbers speak of stands in `linked`.
 #![tactic(auto)]
 
 ghost use Rattle.std.specs.Prelude.{length};

@@ -7,15 +7,8 @@ use Rattle.fields.specs.Bytes.{settings}
 use Rattle.old_case.specs.declared.OldField.{OldField}
 use Rattle.old_case.specs.declared.OldField.TheVariants.{MassKg, MeanG, StoichiometricG, HeatMj, DistanceM, BodyKg}
 use Rattle.old_case.specs.declared.OldCase.{OldCase}
+pub use Rattle.old_case.specs.Fields.{tag_of}
 use Rattle.old_case.specs.Fields.{value_of}
-
-abbrev pub tag_of : OldField → ℕ
-tag_of (MassKg x) = 1
-tag_of (MeanG x) = 2
-tag_of (StoichiometricG x) = 3
-tag_of (HeatMj x) = 4
-tag_of (DistanceM x) = 5
-tag_of (BodyKg x) = 6
 
 unfoldable pub field_bytes : OldField → List ℕ
 field_bytes f = one (tag_of f) ++ eight (to_bits binary64 (value_of f))

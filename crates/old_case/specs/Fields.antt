@@ -4,6 +4,15 @@ use Rattle.doubles.specs.Doubles.{rounded}
 use Rattle.old_case.specs.declared.OldField.{OldField}
 use Rattle.old_case.specs.declared.OldField.TheVariants.{MassKg, MeanG, StoichiometricG, HeatMj, DistanceM, BodyKg}
 
+-- the number that names the field
+abbrev pub tag_of : OldField → ℕ
+tag_of (MassKg x) = 1
+tag_of (MeanG x) = 2
+tag_of (StoichiometricG x) = 3
+tag_of (HeatMj x) = 4
+tag_of (DistanceM x) = 5
+tag_of (BodyKg x) = 6
+
 abbrev pub value_of : OldField → Float
 value_of (MassKg x) = x
 value_of (MeanG x) = x

@@ -4,7 +4,7 @@
 ghost use Rattle.std.specs.Prelude.{◌≡◌, false};
 ghost use Rattle.guidance.specs.Cases.{Fields};
 ghost use Rattle.doubles.specs.Doubles.{unusable};
-ghost use Rattle.old_case.specs.Fields.{value_of, whole_of};
+ghost use Rattle.old_case.specs.Fields.{tag_of, value_of, scale_of, whole_of};
 ghost use Rattle.old_case.specs.Cases.{unusable_in, case_of, lost_heat, old_case_of};
 
 use guidance::Case;
@@ -31,7 +31,56 @@ const DISTANCE: u64 = 100;
 
 const BODY: u64 = 1;
 
-// A case as the old form holds it.
+impl OldField {
+    // The number that names the field in the old form.
+    pub fn tag(self) -> u64
+        ensures { result ≡ tag_of self }
+    {
+        match self {
+            OldField::MassKg(_) => 1,
+            OldField::MeanG(_) => 2,
+            OldField::StoichiometricG(_) => 3,
+            OldField::HeatMj(_) => 4,
+            OldField::DistanceM(_) => 5,
+            OldField::BodyKg(_) => 6,
+        }
+    }
+
+    pub fn value(self) -> f64
+        ensures { result ≡ value_of self }
+    {
+        match self {
+            OldField::MassKg(x)
+            | OldField::MeanG(x)
+            | OldField::StoichiometricG(x)
+            | OldField::HeatMj(x)
+            | OldField::DistanceM(x)
+            | OldField::BodyKg(x) => x,
+        }
+    }
+
+    fn scale(self) -> u64
+        ensures { result ≡ scale_of self }
+    {
+        match self {
+            OldField::MassKg(_) => MASS,
+            OldField::MeanG(_) | OldField::StoichiometricG(_) => CONCENTRATION,
+            OldField::HeatMj(_) => HEAT,
+            OldField::DistanceM(_) => DISTANCE,
+            OldField::BodyKg(_) => BODY,
+        }
+    }
+
+    // The whole number that a frame has for the field.
+    pub fn whole(self) -> u64
+        requires { unusable (value_of self) ≡ false }
+        ensures { result ≡ whole_of self }
+    {
+        doubles::rounded_by(self.scale(), self.value())
+    }
+}
+
+// A case as the old form holds it, whatever its doubles are: what is read is one too, so that whether they are usable is asked and is no part of the type.
 #[derive(Clone, Copy)]
 pub struct OldCase {
     pub substance: u64,
@@ -53,34 +102,20 @@ pub struct OldCase {
 }
 
 // Test 16: one of the six doubles is unusable.
+#[tactic(auto, unfolding(crate::specs::Cases::unusable_in))]
 pub fn is_unusable(o: OldCase) -> bool
     ensures { result ≡ unusable_in o }
 {
-    let mass = doubles::is_unusable(o.mass);
-    let mean = doubles::is_unusable(o.mean);
-    let stoichiometric = doubles::is_unusable(o.stoichiometric);
-    let heat = doubles::is_unusable(o.heat);
-    let distance = doubles::is_unusable(o.distance);
-    let body = doubles::is_unusable(o.body);
-    refusals::any_of(mass, mean, stoichiometric, heat, distance, body)
-}
-
-// The whole number that a frame has for a field.
-fn whole_of(f: OldField) -> u64
-    requires { unusable (value_of f) ≡ false }
-    ensures { result ≡ whole_of f }
-{
-    match f {
-        OldField::MassKg(x) => doubles::rounded_by(MASS, x),
-        OldField::MeanG(x) => doubles::rounded_by(CONCENTRATION, x),
-        OldField::StoichiometricG(x) => doubles::rounded_by(CONCENTRATION, x),
-        OldField::HeatMj(x) => doubles::rounded_by(HEAT, x),
-        OldField::DistanceM(x) => doubles::rounded_by(DISTANCE, x),
-        OldField::BodyKg(x) => doubles::rounded_by(BODY, x),
-    }
+    doubles::is_unusable(o.mass)
+        || doubles::is_unusable(o.mean)
+        || doubles::is_unusable(o.stoichiometric)
+        || doubles::is_unusable(o.heat)
+        || doubles::is_unusable(o.distance)
+        || doubles::is_unusable(o.body)
 }
 
 // The case of whole numbers, which need not fit a frame's fields, in the standard air.
+#[tactic(auto, unfolding(crate::specs::Cases::case_of))]
 pub fn case_of(o: OldCase) -> Case
     requires { unusable_in o ≡ false }
     ensures { result ≡ case_of o }
@@ -90,12 +125,12 @@ pub fn case_of(o: OldCase) -> Case
         state: o.state,
         placement: o.placement,
         surroundings: o.surroundings,
-        mass: whole_of(OldField::MassKg(o.mass)),
-        mean: whole_of(OldField::MeanG(o.mean)),
-        stoichiometric: whole_of(OldField::StoichiometricG(o.stoichiometric)),
-        heat: whole_of(OldField::HeatMj(o.heat)),
-        distance: whole_of(OldField::DistanceM(o.distance)),
-        body: whole_of(OldField::BodyKg(o.body)),
+        mass: OldField::MassKg(o.mass).whole(),
+        mean: OldField::MeanG(o.mean).whole(),
+        stoichiometric: OldField::StoichiometricG(o.stoichiometric).whole(),
+        heat: OldField::HeatMj(o.heat).whole(),
+        distance: OldField::DistanceM(o.distance).whole(),
+        body: OldField::BodyKg(o.body).whole(),
         air: guidance::STANDARD,
     }
 }
@@ -105,13 +140,11 @@ pub fn is_heat_lost(o: OldCase) -> bool
     requires { unusable_in o ≡ false }
     ensures { result ≡ lost_heat o }
 {
-    if 0.0 < o.heat {
-        return whole_of(OldField::HeatMj(o.heat)) == 0;
-    }
-    false
+    0.0 < o.heat && OldField::HeatMj(o.heat).whole() == 0
 }
 
 // The old case of a case: each double is the nearest to its fraction.
+#[tactic(auto, unfolding(crate::specs::Cases::old_case_of))]
 pub fn of_case(c: Case) -> OldCase
     requires { Fields c }
     ensures { result ≡ old_case_of c }

@@ -1,2 +1,3 @@
-pub mod Scans
+pub mod Lookups
 pub mod Closes
+pub mod Maps

@@ -1,9 +1,7 @@
-// 64 places, each a case or none, by value.
+// 64 places, each a case or none.
 #![tactic(auto)]
 
 ghost use Rattle.std.specs.Prelude.{◌≡◌, [], ◌-◌, ◌≤◌, length, set};
-ghost use Rattle.places.specs.Holes.{vacant, at, closed};
-ghost use Rattle.places.specs.Places.{content_of, holds, stands_for};
 
 use guidance::Case;
 
@@ -15,95 +13,63 @@ pub struct Held {
     pub upper: u64,
 }
 
-// What a place holds.
-#[derive(Clone, Copy)]
-pub enum Content {
-    Hole,
-    Taken(Held),
-}
-
-// A struct around it, since an array holds structs and no enums.
-#[derive(Clone, Copy)]
-pub struct Place {
-    pub content: Content,
-}
-
-// Place k is element k - 1.
+// Place k is element k - 1; a place without a case is a hole.
+// No model: a sheet's bytes have all 64 places, those past the last case too, and `sheet_bytes` promises each.
 #[derive(Clone, Copy)]
 pub struct Places {
-    pub all: [Place; 64],
-}
-
-fn is_hole(p: Place) -> bool
-    ensures { result ≡ vacant (holds p) }
-{
-    let content = p.content;
-    match content {
-        Content::Hole => true,
-        Content::Taken(_) => false,
-    }
+    pub all: [Option<Held>; 64],
+    // the length, also where the places are borrowed
+    pub ghost whole: { length all ≡ 64 },
 }
 
 impl Places {
+    ghost use Rattle.places.specs.Holes.{at, closed};
+    ghost use Rattle.places.specs.Places.{stands_for};
+
     pub fn empty() -> Self
         ensures { stands_for result ≡ [] }
     {
-        let hole = Place {
-            content: Content::Hole,
-        };
-        Places { all: [hole; 64] }
+        Places { all: [None; 64] }
     }
 
     // The last place that holds a case; 0 if none does.
-    pub fn last(self) -> usize
-        ensures { result ≡ length (stands_for self) }
+    pub fn last(&self) -> usize
+        ensures { result ≡ length (stands_for self.now) }
     {
-        let mut last: usize = 0;
-        for i in 0..64 {
-            let p = self.all[i];
-            if !is_hole(p) {
-                last = i + 1;
-            }
-        }
-        last
+        self.all
+            .iter()
+            .rposition(|place| place.is_some())
+            .map_or(0, |i| i + 1)
     }
 
     // What a place holds; nothing outside places 1 to 64.
-    pub fn content_at(self, k: usize) -> Content
-        ensures { content_of result ≡ at (stands_for self) k }
+    pub fn content_at(&self, k: usize) -> Option<Held>
+        ensures { result ≡ at (stands_for self.now) k }
     {
-        if k == 0 {
-            return Content::Hole;
-        }
-        if 64 < k {
-            return Content::Hole;
-        }
-        let p = self.all[k - 1];
-        p.content
+        self.all.get(k.checked_sub(1)?).copied().flatten()
     }
 
     // Place k with another content; nothing moves.
-    pub fn with(mut self, k: usize, content: Content) -> Self
+    pub fn put(&mut self, k: usize, held: Option<Held>)
         requires { (1 ≤ k) × (k ≤ 64) }
-        ensures { result.all ≡ set self.all (k - 1) (record { content = content }) }
+        ensures { self.new.all ≡ set self.old.all (k - 1) held }
     {
-        self.all[k - 1] = Place { content };
-        self
+        self.all[k - 1] = held;
     }
 
     // The cases in order, from place 1 on.
-    pub fn close(self) -> Self
-        ensures { stands_for result ≡ closed (stands_for self) }
+    pub fn close(&mut self)
+        ensures { stands_for self.new ≡ closed (stands_for self.old) }
     {
-        let mut closed = Places::empty();
-        let mut n: usize = 0;
-        for i in 0..64 {
-            let held = self.all[i];
-            if !is_hole(held) {
-                closed.all[n] = held;
+        let mut closed = [None; 64];
+        // counted beside the loop: an `enumerate` behind a `filter` would be taken apart again in the proof
+        let mut n = 0;
+        for place in &self.all {
+            if place.is_some() {
+                closed[n] = *place;
                 n += 1;
             }
         }
-        closed
+        self.all = closed;
     }
 }

@@ -4,7 +4,6 @@ use Prim.Native.Nat.{ℕ, ◌+◌, ◌*◌, ◌^◌}
 use native.Mathlib.Omega.{arith}
 use lib.IntN.{ℤ, pos, negsuc}
 use Rattle.span.specs.declared.Span.{Span}
-use Rattle.span.specs.Enclosing.{divisor}
 use Rattle.fixed.specs.declared.Log.{Log}
 use Rattle.fixed.specs.Logs.{Narrow, Small}
 use Rattle.fixed.specs.Promises.{Summands, LogSum, LogDifference, Scalable, Scaled}
@@ -13,7 +12,7 @@ use Rattle.signed.specs.Reading.{R}
 use Rattle.signed.proofs.Magnitude.{own}
 use Rattle.fixed.specs.Thousandths.{thousandths, millis_hold}
 use Rattle.fixed.specs.Enclosing.{constant_encloses, sum_encloses, difference_encloses, scaled_encloses, ratio_value, wider, larger}
-use Rattle.enclosure.specs.Promises.{reach, Loggable, Logarithm}
+use Rattle.enclosure.specs.Promises.{reach, Logarithm}
 use Rattle.enclosure.specs.Enclosing.{logarithm_encloses, logarithm_small}
 use Rattle.guidance.specs.Waves.{thousandths as thousandth_parts}
 use Rattle.guidance.specs.Probits.{probit4_at}
@@ -89,9 +88,6 @@ module _ {s : Span} {k : ℕ} (m : Summed s k) {l : Log} (g : Logarithm s l) whe
 
 -- -12.6 + 1.524 ln ΔP
 module _ {p : Span} (m : Pressure p) where
-  pub pressure_loggable : Loggable p
-  pressure_loggable = record { normal = m.normal; far = divisor m.normal m.narrow (omega arith); most = omega (arith, m.most) }
-
   module _ {l : Log} (g : Logarithm p l) where
     pressure_small : Small l (reach 31 + 2048 + 18)
     pressure_small = logarithm_small 31 g m.narrow (omega arith) (omega (arith, m.least)) (omega (arith, m.most))

@@ -7,42 +7,37 @@ use Rattle.span.specs.Spans.{Width, Whole, Product, Divisible, Quotient, Summand
 use Rattle.span.specs.Enclosing.{constant_encloses, product_encloses, quotient_encloses, sum_encloses, divisor, wider}
 use Rattle.guidance.specs.Waves.{hundredths, third}
 use Rattle.guidance.specs.Probits.{probit1_at, probit2_at, probit3_at, probit5_at}
+use Rattle.probits.specs.declared.coefficients.Strength.{Strength}
 use Rattle.probits.specs.Promises.{Loaded, ProbitOf}
-use Rattle.probits.specs.Terms.{RatioPower, Root, AirRoot, Summed, FallingProbit, Resistance, Lunged, LungPressure}
-use Rattle.probits.specs.Coefficients.{at, weak_pressure, weak_impulse, strong_pressure, strong_impulse, lung_pressure, one, lung_impulse, throw_pressure, throw_impulse}
+use Rattle.probits.specs.Terms.{RatioPower, Root, AirRoot, Summed, FallingProbit, Withstood, Resistance, Lunged, LungPressure}
+use Rattle.probits.specs.Coefficients.{at, weak, strong, weak_pressure, weak_impulse, strong_pressure, strong_impulse, lung_pressure, one, lung_impulse, throw_pressure, throw_impulse}
 use Rattle.probits.proofs.Powers.{whole_number}
 
 -- two powers
-pub powers_summed : {A B p i a b s : Span} {t u : ℕ} (k : ℕ) → k ≤ 57400 → RatioPower A p t a → RatioPower B i u b → Sum a b s → Summed s k
-powers_summed k f x y v =
+pub withstood : {w : Strength} {p i a b s : Span} {l u : ℤ} → RatioPower w.pressure p w.pressure_tenths a → RatioPower w.impulse i w.impulse_tenths b
+    → Sum a b s → FallingProbit s w.factor l u → Withstood w p i l u
+withstood x y v f =
     record {
-      normal = v.normal;
-      narrow = wider (omega arith) (v.width 24000 x.width y.width);
-      least = omega (arith, x.least, v.least_left);
-      most = omega (arith, x.most, y.most, v.most);
-      factor = f;
+      holds = λ q c d z w n e o g h j k. f.holds q _ n e o (sum_encloses v (x.encloses _ _ n o g j) (y.encloses _ _ n o h k));
+      closed = f.closed;
     }
 
-pub probit1_of : {p i a b s : Span} {l u : ℤ} → RatioPower (at 1146880000 1146880000 1008) p 84 a → RatioPower (at 1216348160 1216348160 1002) i 93 b
-    → Sum a b s → FallingProbit s 2600 l u → ProbitOf probit1_at p i l u
+pub probit1_of : {p i : Span} {l u : ℤ} → Withstood weak p i l u → ProbitOf probit1_at p i l u
 unfolding probit1_at
-probit1_of x y v f =
+probit1_of r =
     record {
       holds = λ z w n o h k.
-          f.holds (hundredths 26) _ n (omega arith) o
-          (sum_encloses v (x.encloses _ _ n o (constant_encloses weak_pressure n) h) (y.encloses _ _ n o (constant_encloses weak_impulse n) k));
-      closed = f.closed;
+          r.holds (hundredths 26) _ _ z w n (omega arith) o (constant_encloses weak_pressure n) (constant_encloses weak_impulse n) h k;
+      closed = r.closed;
     }
 
-pub probit2_of : {p i a b s : Span} {l u : ℤ} → RatioPower (at 1310720000 1310720000 1009) p 74 a → RatioPower (at 1929379840 1929379840 1002) i 113 b
-    → Sum a b s → FallingProbit s 2200 l u → ProbitOf probit2_at p i l u
+pub probit2_of : {p i : Span} {l u : ℤ} → Withstood strong p i l u → ProbitOf probit2_at p i l u
 unfolding probit2_at
-probit2_of x y v f =
+probit2_of r =
     record {
       holds = λ z w n o h k.
-          f.holds (hundredths 22) _ n (omega arith) o
-          (sum_encloses v (x.encloses _ _ n o (constant_encloses strong_pressure n) h) (y.encloses _ _ n o (constant_encloses strong_impulse n) k));
-      closed = f.closed;
+          r.holds (hundredths 22) _ _ z w n (omega arith) o (constant_encloses strong_pressure n) (constant_encloses strong_impulse n) h k;
+      closed = r.closed;
     }
 
 -- 4.2/(1 + ΔP/P0)
@@ -117,29 +112,7 @@ resistance_of x y u v =
     }
 
 module _ {p i : Span} (m : Loaded p i) where
-  pub impulse_divides : {air body : ℕ} {c : Span} → Resistance air body c → Divisible c i
-  impulse_divides x =
-      let k = m.impulse in
-      record {
-        left = x.normal;
-        right = k.normal;
-        divisor = divisor k.normal k.narrow (omega arith);
-        least = omega (arith, x.least, k.most);
-        most = omega (arith, x.most);
-      }
-
   module _ {air body : ℕ} {a b c : Span} (x : LungPressure p air a) (y : Resistance air body c) (d : Quotient c i b) where
-    pub lung_sum : Summands a b
-    lung_sum =
-        record {
-          left = x.normal;
-          right = d.normal;
-          least_left = omega (arith, x.least);
-          least_right = omega (arith, y.least, m.impulse.most, d.least);
-          most_left = omega (arith, x.most);
-          most_right = omega (arith, y.most, m.impulse.least, d.most);
-        }
-
     pub lung_summed : {s : Span} → Sum a b s → Summed s 57400
     lung_summed v =
         record {

@@ -7,6 +7,7 @@ use Rattle.span.specs.Spans.{Constant}
 use Rattle.span.specs.Constants.{coefficient}
 use Rattle.fixed.specs.Promises.{LogConstant}
 use Rattle.fixed.specs.Enclosing.{positive_constant, negative_constant}
+use Rattle.probits.specs.declared.coefficients.Strength.{Strength}
 use Rattle.guidance.specs.Waves.{tenths}
 
 abbrev pub at : (lo hi e : ℕ) → Span
@@ -27,6 +28,28 @@ strong_pressure = coefficient _ 1310720000 1310720000 1009 15 (omega arith)
 pub strong_impulse : Constant (of_ratio (whole 460)) 1002 (at 1929379840 1929379840 1002)
 unfolding whole
 strong_impulse = coefficient _ 1929379840 1929379840 1002 22 (omega arith)
+
+-- the strengths of Pr1 and Pr2
+
+abbrev pub weak : Strength
+weak =
+    record {
+      pressure = at 1146880000 1146880000 1008;
+      pressure_tenths = 84;
+      impulse = at 1216348160 1216348160 1002;
+      impulse_tenths = 93;
+      factor = 2600;
+    }
+
+abbrev pub strong : Strength
+strong =
+    record {
+      pressure = at 1310720000 1310720000 1009;
+      pressure_tenths = 74;
+      impulse = at 1929379840 1929379840 1002;
+      impulse_tenths = 113;
+      factor = 2200;
+    }
 
 pub lung_pressure : Constant (of_ratio (tenths 42)) 996 (at 1127428915 1127428916 996)
 lung_pressure = coefficient _ 1127428915 1127428916 996 28 (omega arith)

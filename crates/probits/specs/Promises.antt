@@ -10,7 +10,8 @@ use Rattle.fixed.specs.FloorAndCeiling.{up, dn}
 use Rattle.fixed.specs.Millis.{millis}
 use Rattle.enclosure.specs.Promises.{enough}
 use Rattle.guidance.specs.Cases.{Air}
-use Rattle.layout.specs.declared.Probits.{Probits}
+use Rattle.layout.specs.declared.Five.{Five}
+use Rattle.layout.specs.declared.Interval.{Interval}
 use Rattle.guidance.specs.Probits.{probit1_at, probit2_at, probit3_at, probit4_at, probit5_at}
 
 -- an overpressure from 2^-14 up to 2^31 Pa, within 2^-19 of itself
@@ -68,7 +69,7 @@ pub record Probit4 (p : Span) (l u : ℤ) : Type 0 where
   pub closed : Thousandth l u
 
 -- the five together
-pub record AllProbits (p i : Span) (air body : ℕ) (r : Probits) : Type 0 where
+pub record AllProbits (p i : Span) (air body : ℕ) (r : Five (Interval ℤ)) : Type 0 where
   pub first : Probit1 p i r.first.lower r.first.upper
   pub second : Probit2 p i r.second.lower r.second.upper
   pub third : Probit3 p i air body r.third.lower r.third.upper

@@ -12,6 +12,7 @@ use Rattle.fixed.specs.Millis.{millis}
 use Rattle.enclosure.specs.Promises.{enough}
 use Rattle.guidance.specs.Cases.{Air}
 use Rattle.guidance.specs.Waves.{number, tenths, raised, half, third}
+use Rattle.probits.specs.declared.coefficients.Strength.{Strength}
 use Rattle.probits.specs.Promises.{Pressure, Thousandth}
 
 -- (a/x)^(t/10)
@@ -80,6 +81,26 @@ pub record Summed (s : Span) (k : ℕ) : Type 0 where
 pub record FallingProbit (s : Span) (k : ℕ) (l u : ℤ) : Type 0 where
   pub holds : (q : Ratio) (x : Formula) (n : ℕ) → q.num * 10000 ≡ k * q.den → enough ≤ n → Encloses s x n
       → Holds (millis l u) (sub (number (whole 5)) (mul (number q) (ln x)))
+  pub closed : Thousandth l u
+
+-- 5 - (k/10000) ln[(a/ΔP)^(s/10) + (b/I)^(t/10)], of a strength
+
+pub record Limit (a : Span) (t : ℕ) : Type 0 where
+  pub normal : Normal a
+  pub exact : Width a 1
+  pub least : 1000 ≤ a.e
+  pub most : a.e ≤ 1010
+  pub tenths_most : t ≤ 113
+
+pub record Strong (s : Strength) : Type 0 where
+  pub pressure_limit : Limit s.pressure s.pressure_tenths
+  pub impulse_limit : Limit s.impulse s.impulse_tenths
+  pub factor_most : s.factor ≤ 57400
+
+pub record Withstood (s : Strength) (p i : Span) (l u : ℤ) : Type 0 where
+  pub holds : (q : Ratio) (a b x y : Formula) (n : ℕ) → q.num * 10000 ≡ s.factor * q.den → enough ≤ n
+      → Encloses s.pressure a n → Encloses s.impulse b n → Encloses p x n → Encloses i y n
+      → Holds (millis l u) (sub (number (whole 5)) (mul (number q) (ln (add (raised (tenths s.pressure_tenths) (div a x)) (raised (tenths s.impulse_tenths) (div b y))))))
   pub closed : Thousandth l u
 
 -- 1.3·P0^(1/2)·m^(1/3)

@@ -1,44 +1,56 @@
 // The coefficients of the probits, rounded outward: 31 bits for a span, 2^-30 for a number of either sign.
+// Mantissas are written out: a constant's value calls no function.
 use fixed::Log;
 use span::Span;
 
-// Pr1: 17500 Pa and 290 Pa·s (003).
-pub const WEAK_PRESSURE: Span = Span {
-    lo: 1146880000,
-    hi: 1146880000,
-    e: 1008,
+// What a building withstands: an overpressure and an impulse, each with the exponent of its part in tenths, and the factor of ln in ten-thousandths.
+pub struct Strength {
+    pub pressure: Span,
+    pub pressure_tenths: u32,
+    pub impulse: Span,
+    pub impulse_tenths: u32,
+    pub factor: u32,
+}
+
+// Pr1: 17500 Pa and 290 Pa·s, 8.4 and 9.3, 0.26 (003).
+pub static WEAK: Strength = Strength {
+    pressure: Span {
+        lo: 1146880000,
+        hi: 1146880000,
+        e: 1008,
+    },
+    pressure_tenths: 84,
+    impulse: Span {
+        lo: 1216348160,
+        hi: 1216348160,
+        e: 1002,
+    },
+    impulse_tenths: 93,
+    factor: 2_600,
 };
 
-pub const WEAK_IMPULSE: Span = Span {
-    lo: 1216348160,
-    hi: 1216348160,
-    e: 1002,
+// Pr2: 40000 Pa and 460 Pa·s, 7.4 and 11.3, 0.22 (003).
+pub static STRONG: Strength = Strength {
+    pressure: Span {
+        lo: 1310720000,
+        hi: 1310720000,
+        e: 1009,
+    },
+    pressure_tenths: 74,
+    impulse: Span {
+        lo: 1929379840,
+        hi: 1929379840,
+        e: 1002,
+    },
+    impulse_tenths: 113,
+    factor: 2_200,
 };
 
-// Pr2: 40000 Pa and 460 Pa·s (003).
-pub const STRONG_PRESSURE: Span = Span {
-    lo: 1310720000,
-    hi: 1310720000,
-    e: 1009,
-};
-
-pub const STRONG_IMPULSE: Span = Span {
-    lo: 1929379840,
-    hi: 1929379840,
-    e: 1002,
-};
-
-// Pr3: 4.2, 1 and 1.3 (003).
+// Pr3: 4.2 and 1.3 (003).
 pub const LUNG_PRESSURE: Span = Span {
     lo: 1127428915,
     hi: 1127428916,
     e: 996,
-};
-
-pub const ONE: Span = Span {
-    lo: 1073741824,
-    hi: 1073741824,
-    e: 994,
 };
 
 pub const LUNG_IMPULSE: Span = Span {

@@ -2,9 +2,10 @@
 #![tactic(auto)]
 
 ghost use Rattle.guidance.specs.Cases.{Air};
-ghost use Rattle.probits.specs.Promises.{Pressure, Loaded, Resisting, Probit1, Probit2, Probit3, Probit4, Probit5, AllProbits};
-ghost use Rattle.probits.specs.Terms.{Based, RatioPower, Rootable, Root, AirRoot, Counted, CountedIn, Summed, FallingProbit, Resistance, Lunged, LungPressure};
+ghost use Rattle.probits.specs.Promises.{Loaded, Resisting, Probit3, Probit4, Probit5, AllProbits};
+ghost use Rattle.probits.specs.Terms.{Based, RatioPower, Rootable, Root, AirRoot, Counted, CountedIn, Summed, FallingProbit, Strong, Withstood, Resistance, LungPressure};
 
+use coefficients::Strength;
 use fixed::Log;
 use layout::{Probit, Probits};
 use span::Span;
@@ -16,10 +17,8 @@ fn ratio_power(a: Span, x: Span, t: u32) -> Span
     requires { Based a x t }
     ensures { RatioPower a x t result }
 {
-    let q = span::quo(a, x);
-    let l = enclosure::ln(q);
-    let y = fixed::ten_thousandths(l, 1000 * t);
-    enclosure::expo(y)
+    let l = enclosure::ln(span::quo(a, x));
+    enclosure::expo(fixed::scaled::<10_000>(l, 1_000 * t))
 }
 
 // n^(p/6)
@@ -27,8 +26,7 @@ fn root(n: u64, p: u32) -> Span
     requires { Rootable n p }
     ensures { Root n p result }
 {
-    let a = span::whole(n);
-    enclosure::sixth_power(a, p)
+    enclosure::sixth_power(span::whole(n), p)
 }
 
 // P0^(1/2)
@@ -37,9 +35,10 @@ fn air_root(air: u64) -> Span
     ensures { AirRoot air result }
 {
     if air == guidance::STANDARD_AIR {
-        return coefficients::STANDARD_ROOT;
+        coefficients::STANDARD_ROOT
+    } else {
+        root(air, 3)
     }
-    root(air, 3)
 }
 
 // y in thousandths.
@@ -47,9 +46,10 @@ fn thousandths(y: Log) -> Probit
     requires { Counted y }
     ensures { CountedIn y result.lower result.upper }
 {
-    let lower = fixed::floor_milli(y);
-    let upper = fixed::ceil_milli(y);
-    Probit { lower, upper }
+    Probit {
+        lower: fixed::floor_milli(y),
+        upper: fixed::ceil_milli(y),
+    }
 }
 
 // 5 - (k/10000) ln s
@@ -58,88 +58,76 @@ fn falling(s: Span, k: u32) -> Probit
     ensures { FallingProbit s k result.lower result.upper }
 {
     let l = enclosure::ln(s);
-    let y = fixed::ten_thousandths(l, k);
-    let z = fixed::sub(coefficients::FIVE, y);
-    thousandths(z)
+    thousandths(coefficients::FIVE - fixed::scaled::<10_000>(l, k))
 }
 
-// Pr1 = 5 - 0.26 ln[(17500/ΔP)^8.4 + (290/I)^9.3]
-fn probit1(pressure: Span, impulse: Span) -> Probit
-    requires { Loaded pressure impulse }
-    ensures { Probit1 pressure impulse result.lower result.upper }
-{
-    let a = ratio_power(coefficients::WEAK_PRESSURE, pressure, 84);
-    let b = ratio_power(coefficients::WEAK_IMPULSE, impulse, 93);
-    let s = span::add(a, b);
-    falling(s, 2600)
+// What the probits are read from: enclosures of overpressure and impulse, the air pressure in Pa and the body mass in kg.
+#[derive(Drop)]
+struct Exposure {
+    pressure: Span,
+    impulse: Span,
+    air: u64,
+    body: u64,
+    ghost loaded: { Loaded pressure impulse },
+    ghost resisting: { Resisting air body },
 }
 
-// Pr2 = 5 - 0.22 ln[(40000/ΔP)^7.4 + (460/I)^11.3]
-fn probit2(pressure: Span, impulse: Span) -> Probit
-    requires { Loaded pressure impulse }
-    ensures { Probit2 pressure impulse result.lower result.upper }
-{
-    let a = ratio_power(coefficients::STRONG_PRESSURE, pressure, 74);
-    let b = ratio_power(coefficients::STRONG_IMPULSE, impulse, 113);
-    let s = span::add(a, b);
-    falling(s, 2200)
-}
+impl Exposure {
+    // Pr1 and Pr2, of a strength that is told: 5 - k ln[(a/ΔP)^s + (b/I)^t]
+    fn withstood(&self, by: &Strength) -> Probit
+        requires { Strong by.now }
+        ensures { Withstood by.now self.now.pressure self.now.impulse result.lower result.upper }
+    {
+        let a = ratio_power(by.pressure, self.pressure, by.pressure_tenths);
+        let b = ratio_power(by.impulse, self.impulse, by.impulse_tenths);
+        falling(span::add(a, b), by.factor)
+    }
 
-// 1.3·P0^(1/2)·m^(1/3)
-fn resistance(air: u64, body: u64) -> Span
-    requires { Resisting air body }
-    ensures { Resistance air body result }
-{
-    let a = air_root(air);
-    let b = root(body, 2);
-    let c = span::mul(coefficients::LUNG_IMPULSE, a);
-    span::mul(c, b)
-}
+    // 1.3·P0^(1/2)·m^(1/3)
+    fn resistance(&self) -> Span
+        ensures { Resistance self.now.air self.now.body result }
+    {
+        let a = air_root(self.air);
+        let b = root(self.body, 2);
+        span::mul(span::mul(coefficients::LUNG_IMPULSE, a), b)
+    }
 
-// 4.2/(1 + ΔP/P0)
-fn lung_pressure(pressure: Span, air: u64) -> Span
-    requires { Lunged pressure air }
-    ensures { LungPressure pressure air result }
-{
-    let q = span::quo_whole(pressure, air, guidance::STANDARD_AIR);
-    let t = span::add(coefficients::ONE, q);
-    span::quo(coefficients::LUNG_PRESSURE, t)
-}
+    // 4.2/(1 + ΔP/P0)
+    fn lung_pressure(&self) -> Span
+        ensures { LungPressure self.now.pressure self.now.air result }
+    {
+        let q = span::quo_whole(self.pressure, self.air, guidance::STANDARD_AIR);
+        span::quo(coefficients::LUNG_PRESSURE, span::add(Span::ONE, q))
+    }
 
-// Pr3 = 5 - 5.74 ln[4.2/(1 + ΔP/P0) + 1.3·P0^(1/2)·m^(1/3)/I]
-fn probit3(pressure: Span, impulse: Span, air: u64, body: u64) -> Probit
-    requires loaded { Loaded pressure impulse }
-    requires resisting { Resisting air body }
-    ensures { Probit3 pressure impulse air body result.lower result.upper }
-{
-    let a = lung_pressure(pressure, air);
-    let c = resistance(air, body);
-    let b = span::quo(c, impulse);
-    let s = span::add(a, b);
-    falling(s, 57400)
-}
+    // Pr3 = 5 - 5.74 ln[4.2/(1 + ΔP/P0) + 1.3·P0^(1/2)·m^(1/3)/I]
+    fn probit3(&self) -> Probit
+        ensures { Probit3 self.now.pressure self.now.impulse self.now.air self.now.body result.lower result.upper }
+    {
+        let a = self.lung_pressure();
+        let b = span::quo(self.resistance(), self.impulse);
+        falling(span::add(a, b), 57_400)
+    }
 
-// Pr4 = -12.6 + 1.524 ln ΔP
-fn probit4(pressure: Span) -> Probit
-    requires { Pressure pressure }
-    ensures { Probit4 pressure result.lower result.upper }
-{
-    let l = enclosure::ln(pressure);
-    let y = fixed::ten_thousandths(l, 15240);
-    let z = fixed::add(coefficients::MINUS_TWELVE_SIX, y);
-    thousandths(z)
-}
+    // Pr4 = -12.6 + 1.524 ln ΔP
+    fn probit4(&self) -> Probit
+        ensures { Probit4 self.now.pressure result.lower result.upper }
+    {
+        let l = enclosure::ln(self.pressure);
+        thousandths(coefficients::MINUS_TWELVE_SIX + fixed::scaled::<10_000>(l, 15_240))
+    }
 
-// Pr5 = 5 - 2.44 ln[7380/ΔP + 1,300,000,000/(ΔP·I)]
-fn probit5(pressure: Span, impulse: Span) -> Probit
-    requires { Loaded pressure impulse }
-    ensures { Probit5 pressure impulse result.lower result.upper }
-{
-    let a = span::quo(coefficients::THROW_PRESSURE, pressure);
-    let m = span::mul(pressure, impulse);
-    let b = span::quo(coefficients::THROW_IMPULSE, m);
-    let s = span::add(a, b);
-    falling(s, 24400)
+    // Pr5 = 5 - 2.44 ln[7380/ΔP + 1,300,000,000/(ΔP·I)]
+    fn probit5(&self) -> Probit
+        ensures { Probit5 self.now.pressure self.now.impulse result.lower result.upper }
+    {
+        let a = span::quo(coefficients::THROW_PRESSURE, self.pressure);
+        let b = span::quo(
+            coefficients::THROW_IMPULSE,
+            span::mul(self.pressure, self.impulse),
+        );
+        falling(span::add(a, b), 24_400)
+    }
 }
 
 // Pr1 to Pr5 in air of a given pressure, for a body of a given mass.
@@ -148,16 +136,17 @@ pub fn probits_of(pressure: Span, impulse: Span, air: u64, body: u64) -> Probits
     requires resisting { Resisting air body }
     ensures { AllProbits pressure impulse air body result }
 {
-    let first = probit1(pressure, impulse);
-    let second = probit2(pressure, impulse);
-    let third = probit3(pressure, impulse, air, body);
-    let fourth = probit4(pressure);
-    let fifth = probit5(pressure, impulse);
+    let exposure = Exposure {
+        pressure,
+        impulse,
+        air,
+        body,
+    };
     Probits {
-        first,
-        second,
-        third,
-        fourth,
-        fifth,
+        first: exposure.withstood(&coefficients::WEAK),
+        second: exposure.withstood(&coefficients::STRONG),
+        third: exposure.probit3(),
+        fourth: exposure.probit4(),
+        fifth: exposure.probit5(),
     }
 }

@@ -4,25 +4,21 @@
 ghost use Rattle.std.specs.Prelude.{◌≤◌, length};
 ghost use Rattle.text.specs.Streams.{Tells, TellsLast};
 ghost use Rattle.text.specs.Promises.{Ready};
-ghost use Rattle.reckon.specs.Passing.{Past, Relays, Passes, Buffers};
+ghost use Rattle.reckon.specs.Passing.{Turns, Relays, Passes, Buffers};
 ghost use Rattle.reckon.specs.Reading.{read_most, Runs};
 
 use std::io::{Read, Stdin};
-use text::Stream;
+use text::{Fed, Stream};
 
-// The standard output.
+// The standard output, by its descriptor: `io` tells whether all was written, and no clause says what a `Write` took.
 const STDOUT: i32 = 1;
 
 // A proved loop has to end, and nothing says that an input does. So the reads are counted, up to a number that no run reaches.
 const BUDGET: u64 = 1 << 47;
 
-// A stream after bytes of the input: how many of those at hand it has used, and whether what came of them was written.
+// A write that took nothing or failed.
 #[derive(Drop)]
-struct Passed {
-    stream: Stream,
-    used: usize,
-    written: bool,
-}
+struct WriteFailed;
 
 // Why a run ended: a read brought nothing, a write failed, or the budget of reads is used up.
 #[derive(Drop)]
@@ -41,68 +37,49 @@ struct Ran {
 }
 
 // Writes the text of the lines that end in these bytes after s: the two say what the text has to be.
-fn tell(s: Stream, bytes: &[u8], text: &[u8]) -> bool
+fn tell(s: Stream, bytes: &[u8], text: &[u8]) -> Result<(), WriteFailed>
     requires { Tells s bytes.now text.now }
 {
-    io::write_all(STDOUT, text)
+    io::write_all(STDOUT, text).then_some(()).ok_or(WriteFailed)
 }
 
-// Writes the text of the last line of s, which no LF ends.
-fn tell_last(s: Stream, text: &[u8]) -> bool
+// Writes the text of the last line of s, which no LF ends. Apart from `tell`, since it asks another fact of its text.
+fn tell_last(s: Stream, text: &[u8]) -> Result<(), WriteFailed>
     requires { TellsLast s text.now }
 {
-    io::write_all(STDOUT, text)
+    io::write_all(STDOUT, text).then_some(()).ok_or(WriteFailed)
 }
 
-// Feeds as much of a part as the area has room for the records of, and writes them.
-fn relay(s: Stream, part: &[u8], out: &mut [u8]) -> Passed
-    requires { Ready s (length part.now) out.old }
-    ensures { Relays s part.now result }
+// Feeds as much of a part as the area has room for the records of, and writes them. How many bytes were used.
+fn relay(stream: &mut Stream, part: &[u8], out: &mut [u8]) -> Result<usize, WriteFailed>
+    requires { Ready stream.old (length part.now) out.old }
+    ensures { Relays stream.old part.now result stream.new }
 {
-    let fed = text::feed(s, part, out);
-    let used = fed.used;
-    let n = fed.written;
-    let written = tell(s, &part[..used], &out[..n]);
-    let stream = fed.stream;
-    Passed {
-        stream,
-        used,
-        written,
-    }
+    let before = *stream;
+    let Fed { used, written } = stream.feed(part, out);
+    tell(before, &part[..used], &out[..written])?;
+    Ok(used)
 }
 
 // Feeds a whole part and writes its records; stops at a write that fails.
-fn pass(s: Stream, part: &[u8], out: &mut [u8]) -> Passed
-    requires { Ready s (length part.now) out.old }
-    ensures { Passes s part.now result }
+fn pass(stream: &mut Stream, part: &[u8], out: &mut [u8]) -> Result<(), WriteFailed>
+    requires { Ready stream.old (length part.now) out.old }
+    ensures { Passes stream.old part.now result stream.new }
 {
-    let mut stream = s;
-    let mut used = 0;
-    while used < part.len() {
-        let relayed = relay(stream, &part[used..], out);
-        let next = relayed.stream;
-        stream = next;
-        used += relayed.used;
-        if !relayed.written {
-            return Passed {
-                stream,
-                used,
-                written: false,
-            };
-        }
+    let mut rest = part;
+    // no `for`: each call tells how much it used
+    while !rest.is_empty() {
+        let used = relay(stream, rest, out)?;
+        rest = &rest[used..];
     }
-    Passed {
-        stream,
-        used,
-        written: true,
-    }
+    Ok(())
 }
 
 // Writes the record of a last line that no LF ends.
-fn last(s: Stream, out: &mut [u8]) -> bool
+fn last(s: Stream, out: &mut [u8]) -> Result<(), WriteFailed>
     requires { Ready s 1 out.old }
 {
-    let n = text::finish(s, out);
+    let n = s.finish(out);
     tell_last(s, &out[..n])
 }
 
@@ -113,53 +90,47 @@ fn read_some(source: &mut Stdin, input: &mut [u8]) -> usize
     source.read(input).unwrap_or(0)
 }
 
-// One read, and all that comes of it. No byte is used where the input has ended.
-fn turn(source: &mut Stdin, s: Stream, input: &mut [u8], out: &mut [u8]) -> Passed
+// One read, and all that comes of it. How many bytes were used: none where the input has ended.
+fn turn(
+    source: &mut Stdin,
+    stream: &mut Stream,
+    input: &mut [u8],
+    out: &mut [u8],
+) -> Result<usize, WriteFailed>
     requires buffers { Buffers input.old out.old }
-    requires ready { Ready s read_most out.old }
-    ensures { Past s input.new result.used result.stream }
+    requires ready { Ready stream.old read_most out.old }
+    ensures { Turns stream.old input.new result stream.new }
 {
     let n = read_some(source, input);
     if n == 0 {
-        let written = last(s, out);
-        return Passed {
-            stream: s,
-            used: 0,
-            written,
-        };
+        last(*stream, out)?;
+    } else {
+        pass(stream, &input[..n], out)?;
     }
-    pass(s, &input[..n], out)
+    Ok(n)
 }
 
 fn run(source: &mut Stdin, input: &mut [u8], out: &mut [u8]) -> Ran
     requires { Buffers input.old out.old }
     ensures { Runs result }
 {
-    let mut stream = text::start();
-    let mut reads = 0;
-    while reads < BUDGET {
-        let passed = turn(source, stream, input, out);
-        if !passed.written {
-            return Ran {
-                end: End::Output,
-                reads,
-                stream,
-            };
-        }
-        if passed.used == 0 {
-            return Ran {
-                end: End::Input,
-                reads,
-                stream,
-            };
-        }
-        let next = passed.stream;
-        stream = next;
-        reads += 1;
+    let mut stream = Stream::new();
+    for reads in 0..BUDGET {
+        let before = stream;
+        let end = match turn(source, &mut stream, input, out) {
+            Ok(0) => End::Input,
+            Ok(_) => continue,
+            Err(WriteFailed) => End::Output,
+        };
+        return Ran {
+            end,
+            reads,
+            stream: before,
+        };
     }
     Ran {
         end: End::Budget,
-        reads,
+        reads: BUDGET,
         stream,
     }
 }

@@ -1,5 +1,7 @@
 -- The numbers and words of a case's faults, in the order of the tests (document 01, "Refused cases"; request 2: 12 to 14 in the place of 4, which is retired).
-use Rattle.std.specs.Prelude.{ℕ, ◌-◌, List, [], ◌∷◌, ◌++◌, length, replicate}
+use Rattle.std.specs.Prelude.{ℕ, List, [], ◌∷◌}
+use Rattle.std.proofs.Common.{lit<, lit≤}
+use Rattle.refusals.specs.Told.{Tells}
 use Rattle.refusals.specs.declared.Fault.{Fault}
 use Rattle.refusals.specs.declared.Fault.TheVariants.{Length, Digit, Substance, State, Placement, Surroundings, Quantity, Heat}
 
@@ -24,9 +26,26 @@ word Surroundings = 115 ∷ 117 ∷ 114 ∷ 114 ∷ 111 ∷ 117 ∷ 110 ∷ 100 
 word Quantity = 113 ∷ 117 ∷ 97 ∷ 110 ∷ 116 ∷ 105 ∷ 116 ∷ 121 ∷ []
 word Heat = 104 ∷ 101 ∷ 97 ∷ 116 ∷ []
 
--- a word filled with zeros to n bytes, and to 12
-abbrev pub filled_to : ℕ → List ℕ → List ℕ
-filled_to n w = w ++ replicate (n - length w) 0
-
-abbrev pub filled : List ℕ → List ℕ
-filled w = filled_to 12 w
+pub fault_told : Tells number word
+fault_told = (
+  elim [
+    | Length ↦ lit< tt
+    | Digit ↦ lit< tt
+    | Substance ↦ lit< tt
+    | State ↦ lit< tt
+    | Placement ↦ lit< tt
+    | Surroundings ↦ lit< tt
+    | Quantity ↦ lit< tt
+    | Heat ↦ lit< tt
+  ],
+  elim [
+    | Length ↦ lit≤ tt
+    | Digit ↦ lit≤ tt
+    | Substance ↦ lit≤ tt
+    | State ↦ lit≤ tt
+    | Placement ↦ lit≤ tt
+    | Surroundings ↦ lit≤ tt
+    | Quantity ↦ lit≤ tt
+    | Heat ↦ lit≤ tt
+  ],
+)

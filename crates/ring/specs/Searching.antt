@@ -1,15 +1,14 @@
 -- What the steps of the search ask and give one another.
-use Rattle.std.specs.Prelude.{ℕ, ◌+◌, ◌^◌, ◌≤◌, ◌<◌, ◌≡◌, false}
+use Rattle.std.specs.Prelude.{ℕ, ◌+◌, ◌^◌, ◌≤◌, ◌<◌, ◌≡◌, false, Err, Ok}
 use Rattle.guidance.specs.declared.Case.{Case}
 use Rattle.guidance.specs.AirPressure.{air_of}
 use Rattle.guidance.specs.Cases.{Air}
 use Rattle.guidance.specs.CloudWords.{Heated}
 use Rattle.guidance.specs.Waves.{overpressure}
 use Rattle.guidance.specs.Distances.{farther, cube24}
-use Rattle.limits.specs.declared.Checked.{Checked}
-use Rattle.limits.specs.declared.Checked.TheVariants.{Sound, Unsound}
+use Rattle.limits.specs.Checked.{Checked}
 use Rattle.refusals.specs.Order.{first_of}
-use Rattle.layout.specs.declared.Ends.{Ends}
+use Rattle.layout.specs.declared.Interval.{Interval}
 use Rattle.blast.specs.Promises.{Ended}
 use Rattle.bisection.specs.Bisection.{Between}
 use Rattle.receptor.specs.Receptor.{moved, farthest}
@@ -17,17 +16,16 @@ use Rattle.receptor.specs.laws.Moved.{Permitted}
 use Rattle.ring.specs.declared.Side.{Side}
 use Rattle.ring.specs.declared.Side.TheVariants.{Lower, Upper}
 use Rattle.ring.specs.declared.Refusal.TheVariants.{Faulty}
-use Rattle.ring.specs.declared.Answer.{Answer}
-use Rattle.ring.specs.declared.Answer.TheVariants.{Refused}
+use Rattle.ring.specs.Answer.{Answer}
 use Rattle.ring.specs.Ring.{last_tests, Answers}
 
-abbrev pub end_of : Side → Ends → ℕ
+abbrev pub end_of : Side → Interval ℕ → ℕ
 end_of Lower e = e.lower
 end_of Upper e = e.upper
 
 -- ends of ΔP at the distance d, in Pa
 pub record PressureAt (air : ℕ) (c : Case) (d : ℕ) : Type 0 where
-  pub ends : Ends
+  pub ends : Interval ℕ
   pub ended : Ended (overpressure air (moved c d)) (2 ^ 24) ends
 
 -- the lower or the upper end at d reaches the threshold t; it does not
@@ -72,5 +70,5 @@ RingFor air c t answer = Answers (first_of (last_tests air t)) air c t answer
 
 -- what tests 1 to 6 found stands, else this, in the case's own air
 abbrev pub AnswerTo : Checked → (t : ℕ) → Answer → Type 0
-AnswerTo (Sound c) t answer = RingFor (air_of c) c t answer
-AnswerTo (Unsound f) t answer = answer ≡ Refused (Faulty f)
+AnswerTo (Ok c) t answer = RingFor (air_of c) c t answer
+AnswerTo (Err f) t answer = answer ≡ Err (Faulty f)

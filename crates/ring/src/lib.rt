@@ -2,25 +2,24 @@
 #![tactic(auto)]
 
 ghost use Rattle.std.specs.Prelude.{◌≡◌, ◌^◌};
-ghost use Rattle.guidance.specs.Cases.{Air};
-ghost use Rattle.guidance.specs.CloudWords.{Heated};
 ghost use Rattle.guidance.specs.Waves.{overpressure};
-ghost use Rattle.refusals.specs.Faults.{filled};
 ghost use Rattle.limits.specs.Checks.{HeatedIfSound};
 ghost use Rattle.blast.specs.Promises.{Ended};
 ghost use Rattle.receptor.specs.Receptor.{moved};
-ghost use Rattle.ring.specs.Refusals.{number, word};
-ghost use Rattle.ring.specs.Ring.{Fits, FromFrame, FromLine};
+ghost use Rattle.ring.specs.declared.Refusal.TheVariants.{Faulty};
+ghost use Rattle.ring.specs.Refusals.{number, word, told};
+ghost use Rattle.ring.specs.Ring.{IsRing, Fits, FromFrame, FromLine};
 ghost use Rattle.ring.specs.Searching.{end_of, Standing, Searched, Edge, Crossed, RingFor, AnswerTo};
 
-use guidance::Case;
+use blast::Explosion;
+use guidance::{Case, Setting};
 use layout::Ends;
-use limits::Checked;
+use refusals::{Fault, Reason};
 
 // Why there is no ring, in the order of the tests: a fault of the case, then 9, 10 and 11.
-#[derive(Clone, Copy)]
+#[derive(Clone, Copy, Debug, PartialEq, Eq)]
 pub enum Refusal {
-    Faulty(refusals::Fault),
+    Faulty(Fault),
     // the threshold is outside its limits
     Threshold,
     // the lower end at 1 cm is below the threshold
@@ -29,37 +28,48 @@ pub enum Refusal {
     Strong,
 }
 
-// Distances in cm, or the first test that applies.
-#[derive(Clone, Copy)]
-pub enum Answer {
-    Ring { inner: u64, outer: u64 },
-    Refused(Refusal),
+// Distances in cm: at the inner one the threshold is reached, at the outer one it is not.
+#[derive(Clone, Copy, Debug, PartialEq, Eq)]
+pub struct Ring {
+    pub inner: u64,
+    pub outer: u64,
 }
 
-pub fn number_of(r: Refusal) -> u64
-    ensures { result ≡ number r }
-{
-    match r {
-        Refusal::Faulty(f) => refusals::number_of(f),
-        Refusal::Threshold => 9,
-        Refusal::Weak => 10,
-        Refusal::Strong => 11,
+impl From<Fault> for Refusal {
+    ghost from_gives = { λ f r. r ≡ Faulty f };
+
+    fn from(f: Fault) -> Refusal {
+        Refusal::Faulty(f)
     }
 }
 
-// The refusal's word, filled with zeros to 12 bytes.
-pub fn word_of(r: Refusal) -> [u8; 12]
-    ensures { result ≡ filled (word r) }
-{
-    match r {
-        Refusal::Faulty(f) => refusals::word_of(f),
-        Refusal::Threshold => *b"threshold\0\0\0",
-        Refusal::Weak => *b"weak\0\0\0\0\0\0\0\0",
-        Refusal::Strong => *b"strong\0\0\0\0\0\0",
+impl Reason for Refusal {
+    ghost number_told = { number };
+
+    ghost word_told = { word };
+
+    ghost tells = { told };
+
+    fn number(self) -> u64 {
+        match self {
+            Refusal::Faulty(f) => f.number(),
+            Refusal::Threshold => 9,
+            Refusal::Weak => 10,
+            Refusal::Strong => 11,
+        }
+    }
+
+    fn word(self) -> [u8; 12] {
+        match self {
+            Refusal::Faulty(f) => f.word(),
+            Refusal::Threshold => *b"threshold\0\0\0",
+            Refusal::Weak => *b"weak\0\0\0\0\0\0\0\0",
+            Refusal::Strong => *b"strong\0\0\0\0\0\0",
+        }
     }
 }
 
-// The end of an interval that a search follows.
+// The end of an interval that a search follows: a name and no closure, since what a search promises is of that end.
 #[derive(Clone, Copy)]
 enum Side {
     Lower,
@@ -76,24 +86,25 @@ fn end_of(side: Side, e: Ends) -> u64
 }
 
 // ΔP at a distance, in whole pascals.
-fn pressure_at(c: Case, air: u64, distance: u64) -> Ends
-    requires { Standing air c distance }
-    ensures { Ended (overpressure air (moved c distance)) (2 ^ 24) result }
+fn pressure_at(here: &Setting, distance: u64) -> Ends
+    requires { Standing here.now.air here.now.case distance }
+    ensures { Ended (overpressure here.now.air (moved here.now.case distance)) (2 ^ 24) result }
 {
-    let m = receptor::moved(c, distance);
-    blast::pressure(m, air)
+    let there = receptor::at_distance(here, distance);
+    Explosion::of(there).pressure()
 }
 
 // A distance at which the end reaches the threshold, while one cm farther it does not; from `near`, where it does, to `far`, where it does not.
-fn edge(c: Case, air: u64, threshold: u64, side: Side, near: u64, far: u64) -> u64
-    requires { Searched side air c threshold near far }
-    ensures { Edge side air c threshold near far result }
+fn edge(here: &Setting, threshold: u64, side: Side, near: u64, far: u64) -> u64
+    requires { Searched side here.now.air here.now.case threshold near far }
+    ensures { Edge side here.now.air here.now.case threshold near far result }
 {
     let mut low = near;
     let mut high = far;
+    // a bisection: no iterator gives the distances, each of which is chosen by the last
     while 1 < high - low {
         let middle = (low + high) / 2;
-        let e = pressure_at(c, air, middle);
+        let e = pressure_at(here, middle);
         if end_of(side, e) < threshold {
             high = middle;
         } else {
@@ -104,70 +115,66 @@ fn edge(c: Case, air: u64, threshold: u64, side: Side, near: u64, far: u64) -> u
 }
 
 // The ring of a threshold that is reached at 1 cm and not at the farthest distance. The outer search starts at the inner distance.
-fn ring_within(c: Case, air: u64, threshold: u64, far: u64) -> Answer
-    requires { Crossed air c threshold far }
-    ensures { Fits air c threshold result }
+fn ring_within(here: &Setting, threshold: u64, far: u64) -> Ring
+    requires { Crossed here.now.air here.now.case threshold far }
+    ensures { IsRing here.now.air here.now.case threshold result.inner result.outer }
 {
-    let inner = edge(c, air, threshold, Side::Lower, 1, far);
-    let outer = edge(c, air, threshold, Side::Upper, inner, far) + 1;
-    Answer::Ring { inner, outer }
+    let inner = edge(here, threshold, Side::Lower, 1, far);
+    let outer = edge(here, threshold, Side::Upper, inner, far) + 1;
+    Ring { inner, outer }
 }
 
 // 10, 11 or the ring.
-fn search(c: Case, air: u64, threshold: u64) -> Answer
-    requires { (Heated c) × (Air air) }
-    ensures { Fits air c threshold result }
+fn search(here: &Setting, threshold: u64) -> Result<Ring, Refusal>
+    ensures { Fits here.now.air here.now.case threshold result }
 {
-    let first = pressure_at(c, air, 1);
+    let first = pressure_at(here, 1);
     if first.lower < threshold {
-        return Answer::Refused(Refusal::Weak);
+        return Err(Refusal::Weak);
     }
-    let far = receptor::farthest(c, air);
+    let far = receptor::farthest(here);
     // at 1 cm the upper end is not below the lower, which reaches the threshold
     if far == 1 {
-        return Answer::Refused(Refusal::Strong);
+        return Err(Refusal::Strong);
     }
-    let last = pressure_at(c, air, far);
+    let last = pressure_at(here, far);
     if last.upper < threshold {
-        ring_within(c, air, threshold, far)
+        Ok(ring_within(here, threshold, far))
     } else {
-        Answer::Refused(Refusal::Strong)
+        Err(Refusal::Strong)
     }
 }
 
 // Test 9 and what follows it, for a case that passed tests 1 to 6; its own distance is not used.
-fn ring_for(c: Case, air: u64, threshold: u64) -> Answer
-    requires { (Heated c) × (Air air) }
-    ensures { RingFor air c threshold result }
+fn ring_for(here: &Setting, threshold: u64) -> Result<Ring, Refusal>
+    ensures { RingFor here.now.air here.now.case threshold result }
 {
-    if limits::is_outside(1, 18 * air, threshold) {
-        return Answer::Refused(Refusal::Threshold);
+    if limits::is_outside(1, 18 * here.air, threshold) {
+        return Err(Refusal::Threshold);
     }
-    search(c, air, threshold)
+    search(here, threshold)
 }
 
-fn answer_to(s: Checked, threshold: u64) -> Answer
-    requires { HeatedIfSound s }
-    ensures { AnswerTo s threshold result }
+// What tests 1 to 6 found stands, else the ring in the case's own air.
+fn answer_to(found: Result<Case, Fault>, threshold: u64) -> Result<Ring, Refusal>
+    requires { HeatedIfSound found }
+    ensures { AnswerTo found threshold result }
 {
-    match s {
-        Checked::Sound(c) => ring_for(c, guidance::air_of(c), threshold),
-        Checked::Unsound(f) => Answer::Refused(Refusal::Faulty(f)),
-    }
+    let c = found?;
+    let here = Setting::in_own_air(c);
+    ring_for(&here, threshold)
 }
 
 // The ring of a threshold in pascals, for a case given as a frame's bytes.
-pub fn from_frame(frame: &[u8], threshold: u64) -> Answer
+pub fn from_frame(frame: &[u8], threshold: u64) -> Result<Ring, Refusal>
     ensures { FromFrame frame.now threshold result }
 {
-    let s = frame::check_frame(frame);
-    answer_to(s, threshold)
+    answer_to(frame::check_frame(frame), threshold)
 }
 
 // The same for a case given as a line.
-pub fn from_line(line: &[u8], threshold: u64) -> Answer
+pub fn from_line(line: &[u8], threshold: u64) -> Result<Ring, Refusal>
     ensures { FromLine line.now threshold result }
 {
-    let s = frame::check_line(line);
-    answer_to(s, threshold)
+    answer_to(frame::check_line(line), threshold)
 }

@@ -1,16 +1,15 @@
 -- What the private functions ask and promise.
-use Rattle.std.specs.Prelude.{ℕ, ◌≡◌, Bool, true, false, cond}
+use Rattle.std.specs.Prelude.{◌≡◌, Bool, true, false, cond, Ok}
 use Rattle.span.specs.declared.Span.{Span}
 use Rattle.span.specs.Spans.{below}
 use Rattle.guidance.specs.declared.Case.{Case}
-use Rattle.guidance.specs.declared.Cloud.{Cloud}
 use Rattle.guidance.specs.Cases as cases
 use Rattle.guidance.specs.AirPressure.{air_of}
 use Rattle.guidance.specs.Clouds.{deflagrates}
 use Rattle.guidance.specs.Waves.{near_field}
-use Rattle.frame.specs.declared.Verdict.{Verdict}
-use Rattle.frame.specs.declared.Verdict.TheVariants.{Accepted}
-use Rattle.blast.specs.Promises.{Ready, Rounded}
+use Rattle.frame.specs.Verdict.{Verdict}
+use Rattle.blast.specs.declared.Explosion.{Explosion}
+use Rattle.blast.specs.Promises.{Rounded}
 use Rattle.rules.specs.declared.Rule.{Rule}
 use Rattle.rules.specs.declared.Rule.TheVariants.{NearField, Detonation, Deflagration, DeflagrationAt034, Undecided}
 
@@ -25,12 +24,11 @@ Decided f d under near Deflagration = (below f d ≡ true) × (under ≡ false)
 Decided f d under near DeflagrationAt034 = (below f d ≡ true) × (under ≡ true)
 Decided f d under near (Undecided a b) = (below f d ≡ false) × (below d f ≡ false) × Rounded f a × Rounded d b
 
--- an accepted case of ranges 2 to 6, its cloud, and whether it is in the near field
-pub record Burning (c : Case) (k : Cloud) (air : ℕ) (near : Bool) : Type 0 where
-  pub ready : Ready c k air
-  pub burns : deflagrates c ≡ true
-  pub near_is : near ≡ near_field air c
+-- an explosion of ranges 2 to 6, and whether it is in the near field
+pub record Burning (x : Explosion) (near : Bool) : Type 0 where
+  pub burns : deflagrates x.at.case ≡ true
+  pub near_is : near ≡ near_field x.at.air x.at.case
 
 -- a case that the verdict accepts is one
 abbrev pub Acceptable : Verdict → Type 0
-Acceptable v = (c : Case) → v ≡ Accepted c → cases.Accepted (air_of c) c
+Acceptable v = (c : Case) → v ≡ Ok c → cases.Accepted (air_of c) c

@@ -1,6 +1,6 @@
 -- Which rule gave ΔP and which gave I of an accepted case (request 5). In ranges 2 to 6 the answer is open where a name and "undecided" both
 -- fit, and so are the ends of "undecided": what comes back is one that fits.
-use Rattle.std.specs.Prelude.{ℕ, ◌≤◌, ◌≡◌, List, Bool, true, false, cond}
+use Rattle.std.specs.Prelude.{ℕ, ◌≤◌, ◌≡◌, List, Bool, true, false, cond, Err, Ok}
 use Rattle.exact.specs.Formula.{Formula}
 use Rattle.exact.specs.Smaller.{IsSmaller}
 use Rattle.guidance.specs.declared.Case.{Case}
@@ -8,23 +8,21 @@ use Rattle.guidance.specs.AirPressure.{air_of}
 use Rattle.guidance.specs.Clouds.{deflagrates}
 use Rattle.guidance.specs.Distances.{nearer, cube034}
 use Rattle.guidance.specs.Waves.{near_field, deflagration_pressure, deflagration_impulse, detonation_pressure, detonation_impulse, in_pascals, in_pascal_seconds}
-use Rattle.frame.specs.declared.Verdict.{Verdict}
-use Rattle.frame.specs.declared.Verdict.TheVariants as verdict
+use Rattle.frame.specs.Verdict.{Verdict}
 use Rattle.frame.specs.Verdicts.{answer_length, frame_verdict, line_verdict}
-use Rattle.layout.specs.declared.Ends.{Ends}
+use Rattle.layout.specs.declared.Interval.{Interval}
 use Rattle.blast.specs.WaveEnds.{WaveEnds}
 use Rattle.rules.specs.declared.Rule.{Rule}
 use Rattle.rules.specs.declared.Rule.TheVariants.{NearField, Detonation, Deflagration, DeflagrationAt034, Undecided}
 use Rattle.rules.specs.declared.Rules.{Rules}
-use Rattle.rules.specs.declared.Answer.{Answer}
-use Rattle.rules.specs.declared.Answer.TheVariants.{Named, Refused}
+use Rattle.rules.specs.Answer.{Answer}
 
 -- of a detonation figure: the near-field value, or the detonation formula
 abbrev pub detonation_rule : (near : Bool) → Rule
 detonation_rule near = cond near NearField Detonation
 
 -- whole numbers around x and around y, each pair within the written width, that overlap; ends that touch do
-pub record Overlap (x y : Formula) (a b : Ends) : Type 0 where
+pub record Overlap (x y : Formula) (a b : Interval ℕ) : Type 0 where
   pub first : WaveEnds x a
   pub second : WaveEnds y b
   pub first_reaches : b.lower ≤ a.upper
@@ -50,9 +48,9 @@ pub record RulesOf (air : ℕ) (c : Case) (r : Rules) : Type 0 where
 
 -- by the verdict: the rules of an accepted case in its own air, or its refusal
 abbrev pub Answers : Verdict → Answer → Type 0
-Answers (verdict.Accepted c) (Named r) = RulesOf (air_of c) c r
-Answers (verdict.Accepted c) (Refused q) = ⊥
-Answers (verdict.Refused q) answer = answer ≡ Refused q
+Answers (Ok c) (Ok r) = RulesOf (air_of c) c r
+Answers (Ok c) (Err q) = ⊥
+Answers (Err q) answer = answer ≡ Err q
 
 -- the entries; nothing is written, so the verdict is that with room for an answer, and test 8 never applies
 abbrev pub FromFrame : (frame : List ℕ) → Answer → Type 0

@@ -5,14 +5,15 @@
 ghost use Rattle.std.specs.Prelude.{◌≡◌};
 ghost use Rattle.guidance.specs.AirPressure.{air_of};
 ghost use Rattle.guidance.specs.Cases.{Accepted};
-ghost use Rattle.refusals.specs.Faults.{filled_to};
+ghost use Rattle.refusals.specs.Told.{filled_to};
 ghost use Rattle.blast.specs.Promises.{Roundable};
 ghost use Rattle.rules.specs.Words.{number, words};
 ghost use Rattle.rules.specs.Rules.{detonation_rule, RulesOf, Answers, FromFrame, FromLine};
 ghost use Rattle.rules.specs.Deciding.{deflagration_rule, Decided, Burning, Acceptable};
 
-use frame::{Refusal, Verdict};
-use guidance::{Case, Cloud};
+use blast::Explosion;
+use frame::Refusal;
+use guidance::{Case, Setting};
 use layout::Ends;
 use span::Span;
 
@@ -37,41 +38,31 @@ pub struct Rules {
     pub impulse: Rule,
 }
 
-// The rules of an accepted case, or the first test that applies.
-#[derive(Clone, Copy)]
-pub enum Answer {
-    Named(Rules),
-    Refused(Refusal),
-}
-
-pub fn number_of(r: Rule) -> u64
-    ensures { result ≡ number r }
-{
-    match r {
-        Rule::Undecided {
-            deflagration: _,
-            detonation: _,
-        } => 0,
-        Rule::NearField => 1,
-        Rule::Detonation => 2,
-        Rule::Deflagration => 3,
-        Rule::DeflagrationAt034 => 4,
+impl Rule {
+    // 0 for "undecided".
+    pub fn number(self) -> u64
+        ensures { result ≡ number self }
+    {
+        match self {
+            Rule::Undecided { .. } => 0,
+            Rule::NearField => 1,
+            Rule::Detonation => 2,
+            Rule::Deflagration => 3,
+            Rule::DeflagrationAt034 => 4,
+        }
     }
-}
 
-// The rule in words, filled with zeros to 28 bytes.
-pub fn words_of(r: Rule) -> [u8; 28]
-    ensures { result ≡ filled_to 28 (words r) }
-{
-    match r {
-        Rule::NearField => *b"near-field value\0\0\0\0\0\0\0\0\0\0\0\0",
-        Rule::Detonation => *b"detonation formula\0\0\0\0\0\0\0\0\0\0",
-        Rule::Deflagration => *b"deflagration formula\0\0\0\0\0\0\0\0",
-        Rule::DeflagrationAt034 => *b"deflagration formula at 0.34",
-        Rule::Undecided {
-            deflagration: _,
-            detonation: _,
-        } => *b"undecided\0\0\0\0\0\0\0\0\0\0\0\0\0\0\0\0\0\0\0",
+    // The rule in words, filled with zeros to 28 bytes.
+    pub fn words(self) -> [u8; 28]
+        ensures { result ≡ filled_to 28 (words self) }
+    {
+        match self {
+            Rule::NearField => *b"near-field value\0\0\0\0\0\0\0\0\0\0\0\0",
+            Rule::Detonation => *b"detonation formula\0\0\0\0\0\0\0\0\0\0",
+            Rule::Deflagration => *b"deflagration formula\0\0\0\0\0\0\0\0",
+            Rule::DeflagrationAt034 => *b"deflagration formula at 0.34",
+            Rule::Undecided { .. } => *b"undecided\0\0\0\0\0\0\0\0\0\0\0\0\0\0\0\0\0\0\0",
+        }
     }
 }
 
@@ -115,12 +106,12 @@ fn smaller_of(f: Span, d: Span, under: bool, near: bool) -> Rule
 }
 
 // In ranges 2 to 6.
-fn rules_by_figures(c: Case, k: Cloud, air: u64, near: bool) -> Rules
-    requires { Burning c k air near }
-    ensures { RulesOf air c result }
+fn rules_by_figures(x: &Explosion, near: bool) -> Rules
+    requires { Burning x.now near }
+    ensures { RulesOf x.now.at.air x.now.at.case result }
 {
-    let under = guidance::is_under_034(c, k, air);
-    let figures = blast::figures_of(c, k, air);
+    let under = x.at.is_under_034();
+    let figures = x.figures();
     let f = figures.deflagration;
     let d = figures.detonation;
     let pressure = smaller_of(f.pressure, d.pressure, under, near);
@@ -132,44 +123,38 @@ fn rules_of(c: Case) -> Rules
     requires { Accepted (air_of c) c }
     ensures { RulesOf (air_of c) c result }
 {
-    let air = guidance::air_of(c);
-    let k = guidance::cloud_of(c);
-    let near = guidance::is_near_field(c, k, air);
-    if k.range < 2 {
+    let at = Setting::in_own_air(c);
+    let near = at.is_near_field();
+    if at.cloud.range < 2 {
         let rule = detonation_rule(near);
         return Rules {
             pressure: rule,
             impulse: rule,
         };
     }
-    rules_by_figures(c, k, air, near)
+    let x = Explosion::of(at);
+    rules_by_figures(&x, near)
 }
 
-fn answer_to(v: Verdict) -> Answer
-    requires { Acceptable v }
-    ensures { Answers v result }
+// The rules of an accepted case; a refusal stands.
+fn answer_to(verdict: Result<Case, Refusal>) -> Result<Rules, Refusal>
+    requires { Acceptable verdict }
+    ensures { Answers verdict result }
 {
-    match v {
-        Verdict::Accepted(c) => {
-            let rules = rules_of(c);
-            Answer::Named(rules)
-        }
-        Verdict::Refused(r) => Answer::Refused(r),
-    }
+    let c = verdict?;
+    Ok(rules_of(c))
 }
 
 // The rules of a case given as a frame's bytes. Where a name and "undecided" both fit, the answer is open.
-pub fn from_frame(frame: &[u8]) -> Answer
+pub fn from_frame(frame: &[u8]) -> Result<Rules, Refusal>
     ensures { FromFrame frame.now result }
 {
-    let v = frame::decide_frame(frame, frame::ANSWER);
-    answer_to(v)
+    answer_to(frame::decide_frame(frame, frame::ANSWER))
 }
 
 // The same for a case given as a line.
-pub fn from_line(line: &[u8]) -> Answer
+pub fn from_line(line: &[u8]) -> Result<Rules, Refusal>
     ensures { FromLine line.now result }
 {
-    let v = frame::decide_line(line, frame::ANSWER);
-    answer_to(v)
+    answer_to(frame::decide_line(line, frame::ANSWER))
 }

@@ -1,3 +1,2 @@
 -- What several proofs cite.
-pub mod Folds
 pub mod Reading

@@ -1,77 +1,66 @@
--- The end of a word or a line, one digit more, and the word at a place. Assumes nothing.
-use Rattle.std.proofs.Common.{◌≡◌, ℕ, suc, ◌+◌, ◌-◌, ◌*◌, ◌<◌, ◌≤◌, List, length, get_or, take, drop, refl, ap, ◌∙◌, add-one, arith, drop_of_length-le, drop-cons, le-ltb, lt-ltb, eq-eqb, ne_eqb, le-leb}
-use borrow.Author.Tests.{lt-leb}
-use Rattle.scan.specs.declared.Word.{Word}
-use Rattle.scan.specs.Words.{Between, before, place_of, shifted, spelled, past, word_at}
+-- The number that a word spells is small, and the first of a text's lines. Assumes nothing.
+use Rattle.std.proofs.Common.{◌≡◌, ℕ, suc, ◌+◌, ◌≤◌, Bool, true, false, ◌||◌, eqb, eqb-true, List, [], ◌∷◌, length, refl, ap, ◌∙◌, add-one, arith}
+use Rattle.std.specs.List.{fold, before_first, after_first}
+use Rattle.std.proofs.lemmas.Bool.Decides.{nat_tests}
+use Rattle.scan.specs.Words.{largest, shifted, spelled, onto, lines_of}
 
--- neither a nor b stands from `from` on before `at`
-pub record Sought (text : List ℕ) (from a b at : ℕ) : Type 0 where
-  pub between : Between from at (length text)
-  pub rest : place_of text from a b ≡ place_of text at a b
+shifted_small : (value b : ℕ) → value ≤ largest → shifted value b ≤ largest
+shifted_small value b h = grind (arith, nat_tests)
 
-pub seek_first : (text : List ℕ) (from a b : ℕ) → from ≤ length text → Sought text from a b from
-seek_first text from a b h = record { between = record { onward = omega arith; within = h }; rest = refl }
+fold_small : (value : ℕ) (word : List ℕ) → value ≤ largest → fold shifted value word ≤ largest
+fold_small value [] h = h
+fold_small value (b ∷ word) h = fold_small (shifted value b) word (shifted_small value b h)
 
-module _ {text : List ℕ} {from a b at : ℕ} (c : Sought text from a b at) where
-  pub seek_a : at < length text → get_or text at 0 ≡ a → at ≡ place_of text from a b
-  unfolding before place_of
-  seek_a h e =
-      let none : before a b (drop at text) ≡ 0 = ap (before a b) (drop-cons text at 0 h) ∙ simp (eq-eqb _ _ e) in
-      omega (arith, c.rest)
+pub spelled_small : (word : List ℕ) → spelled word ≤ largest
+spelled_small word = fold_small 0 word (omega arith)
 
-  pub seek_b : at < length text → (get_or text at 0 ≡ a → ⊥) → get_or text at 0 ≡ b → at ≡ place_of text from a b
-  unfolding before place_of
-  seek_b h n e =
-      let none : before a b (drop at text) ≡ 0 = ap (before a b) (drop-cons text at 0 h) ∙ simp (ne_eqb _ _ n, eq-eqb _ _ e) in
-      omega (arith, c.rest)
+one-add : (n : ℕ) → 1 + n ≡ suc n
+one-add n = omega arith
 
-  pub seek_again : at < length text → (get_or text at 0 ≡ a → ⊥) → (get_or text at 0 ≡ b → ⊥) → Sought text from a b (at + 1)
-  unfolding before place_of
-  seek_again h n m =
-      let one : before a b (drop at text) ≡ suc (before a b (drop (suc at) text)) = ap (before a b) (drop-cons text at 0 h) ∙ simp (ne_eqb _ _ n, ne_eqb _ _ m) in
-      record {
-        between = record { onward = omega arith; within = omega arith };
-        rest = rw (add-one at) (omega (arith, c.rest, one));
-      }
+module _ (p : ℕ → Bool) (b : ℕ) (text : List ℕ) where
+  before_yes : p b ≡ true → before_first p (b ∷ text) ≡ []
+  before_yes h = simp h
 
-  pub seek_last : length text ≤ at → at ≡ place_of text from a b
-  unfolding before place_of
-  seek_last h =
-      let none : before a b (drop at text) ≡ 0 = ap (before a b) (drop_of_length-le text h) in
-      omega (arith, c.rest)
+  after_yes : p b ≡ true → after_first p (b ∷ text) ≡ text
+  after_yes h = simp h
 
--- one digit more, over the byte as a wide number
-module _ (value : ℕ) {digit b : ℕ} (e : digit ≡ b) where
-  pub below-zero : digit < 48 → value ≡ shifted value b
-  unfolding shifted
-  below-zero h = simp (← e, lt-leb 48 digit h)
+  before_no : p b ≡ false → before_first p (b ∷ text) ≡ b ∷ before_first p text
+  before_no h = simp (h, one-add)
 
-  pub above_nine : 48 ≤ digit → 57 < digit → value ≡ shifted value b
-  unfolding shifted
-  above_nine h k = simp (← e, le-leb 48 digit h, lt-leb digit 57 k)
+  after_no : p b ≡ false → after_first p (b ∷ text) ≡ after_first p text
+  after_no h = simp (h, one-add, add-one)
 
-  pub one_too_many : 48 ≤ digit → digit ≤ 57 → 1000000000000000000 < value → value ≡ shifted value b
-  unfolding shifted
-  one_too_many h k l = simp (← e, le-leb 48 digit h, le-leb digit 57 k, lt-leb value 1000000000000000000 l)
+-- the first line of a text that has bytes, by any test that finds LF
+module _ (p : ℕ → Bool) (finds : (b : ℕ) → p b ≡ eqb b 10) where
+  onto_first : (b : ℕ) (text : List ℕ)
+      → (t : Bool)
+      → eqb b 10 ≡ t
+      → onto b (lines_of text) ≡ (b ∷ before_first p text) ∷ lines_of (after_first p text)
+      → lines_of (b ∷ text) ≡ before_first p (b ∷ text) ∷ lines_of (after_first p (b ∷ text))
+  unfolding lines_of
+  onto_first b text true h more =
+      let e = finds b ∙ h in simp (h, before_yes p b text e, after_yes p b text e)
+  onto_first b text false h more =
+      let e = finds b ∙ h in rw (before_no p b text e, after_no p b text e) (simp h more)
 
-  pub one_more : 48 ≤ digit → digit ≤ 57 → value ≤ 1000000000000000000 → 10 * value + (digit - 48) ≡ shifted value b
-  unfolding shifted
-  one_more h k l = simp (← e, le-leb 48 digit h, le-leb digit 57 k, le-leb value 1000000000000000000 l)
+  pub lines-cons : (b : ℕ) (text : List ℕ) → lines_of (b ∷ text) ≡ before_first p (b ∷ text) ∷ lines_of (after_first p (b ∷ text))
+  unfolding lines_of
+  lines-cons b [] = onto_first b [] (eqb b 10) refl refl
+  lines-cons b (c ∷ text) = onto_first b (c ∷ text) (eqb b 10) refl (ap (onto b) (lines-cons c text))
 
-module _ (at size : ℕ) where
-  pub past_byte : at < size → at + 1 ≡ past at size
-  unfolding past
-  past_byte h = simp (lt-ltb _ _ h)
+  pub lines_first : (text : List ℕ) → eqb (length text) 0 ≡ false → lines_of text ≡ before_first p text ∷ lines_of (after_first p text)
+  lines_first [] some = cc
+  lines_first (b ∷ text) some = lines-cons b text
 
-  pub past_none : size ≤ at → at ≡ past at size
-  unfolding past
-  past_none h = simp (le-ltb _ _ h)
+pub lines_none : (text : List ℕ) → eqb (length text) 0 ≡ true → lines_of text ≡ []
+unfolding lines_of
+lines_none [] none = refl
+lines_none (b ∷ text) none = absurd (omega (arith, eqb-true (length (b ∷ text)) 0 none))
 
-pub word_is : (text : List ℕ) (from : ℕ) {end lead value next : ℕ}
-    → end ≡ place_of text from 32 10
-    → lead ≡ get_or text from 0
-    → value ≡ spelled (take (end - from) (drop from text))
-    → next ≡ past end (length text)
-    → ◌≡◌ {A = Word} (record { lead = lead; value = value; next = next }) (word_at text from)
-unfolding word_at
-word_is text from e l v n = cc
+either_same : (t : Bool) → (t || t) ≡ t
+either_same true = refl
+either_same false = refl
+
+-- a test of LF twice is a test of it
+pub finds_twice : (b : ℕ) → (eqb b 10 || eqb b 10) ≡ eqb b 10
+finds_twice b = either_same (eqb b 10)

@@ -1,49 +1,44 @@
--- Places in a data file, and the numbers of its words.
-use Rattle.std.specs.Prelude.{ℕ, suc, ◌+◌, ◌-◌, ◌*◌, ◌≤◌, cond, ◌&&◌, ◌||◌, List, [], ◌∷◌, length, take, drop, ◌==◌, nat_le, nat_lt, slice_index}
-use mathlib.Core.List.{foldl}
-use Rattle.scan.specs.declared.Word.{Word}
+-- The lines and the words of a text, and the numbers that words spell.
+use Rattle.std.specs.Prelude.{ℕ, ◌+◌, ◌-◌, ◌*◌, cond, Bool, ◌&&◌, ◌||◌, List, [], ◌∷◌, ◌==◌, nat_le, slice_index}
+use Rattle.std.specs.List.{fold, before_first, after_first}
 
 -- a number of at most nineteen digits, and one digit more to spare
 abbrev pub largest : ℕ
 largest = 10000000000000000009
 
-pub record Between (from at size : ℕ) : Type 0 where
-  pub onward : from ≤ at
-  pub within : at ≤ size
-
--- how many bytes stand before the first a or b
-unfoldable pub before : (a b : ℕ) → List ℕ → ℕ
-before a b [] = 0
-before a b (x ∷ text) = cond (x == a || x == b) 0 (suc (before a b text))
-
--- the first place from `from` on where a or b stands, or the length
-unfoldable pub place_of : (text : List ℕ) (from a b : ℕ) → ℕ
-place_of text from a b = from + before a b (drop from text)
-
 -- one digit more; any other byte, as the point, changes nothing, nor does a digit too many
-unfoldable pub shifted : (value byte : ℕ) → ℕ
+abbrev pub shifted : (value byte : ℕ) → ℕ
 shifted value b = cond (nat_le 48 b && nat_le b 57) (cond (nat_le value 1000000000000000000) (10 * value + (b - 48)) value) value
 
 -- the number that the digits of a word spell
-unfoldable pub spelled : List ℕ → ℕ
-spelled word = foldl shifted 0 word
+abbrev pub spelled : List ℕ → ℕ
+spelled word = fold shifted 0 word
 
--- past the byte at a place, or the length
-unfoldable pub past : (at size : ℕ) → ℕ
-past at size = cond (nat_lt at size) (at + 1) at
+-- a space or LF ends a word
+abbrev pub ends_word : ℕ → Bool
+ends_word b = b == 32 || b == 10
 
--- the word that starts at a place: a space or LF ends it
-unfoldable pub word_at : (text : List ℕ) (from : ℕ) → Word
-word_at text from =
-    record {
-      lead = slice_index text from;
-      value = spelled (take (place_of text from 32 10 - from) (drop from text));
-      next = past (place_of text from 32 10) (length text);
-    }
+-- the first byte of a text's first word, and the number that its digits spell; of no word both are 0
+unfoldable pub lead_of : List ℕ → ℕ
+lead_of text = slice_index text 0
 
--- a word of the value that starts at from, and the next place: less of the text is left, unless none was
-pub record Passed (from value next size : ℕ) : Type 0 where
-  pub onward : from ≤ next
-  pub within : next ≤ size
-  pub further : size - next ≤ size - from - 1
-  pub small : value ≤ largest
+unfoldable pub value_of : List ℕ → ℕ
+value_of text = spelled (before_first ends_word text)
+
+-- what is left behind the byte that ends it
+unfoldable pub after_word : List ℕ → List ℕ
+after_word text = after_first ends_word text
+
+-- LF ends a line
+abbrev pub ends_line : ℕ → Bool
+ends_line b = b == 10
+
+-- a byte before the first of some lines
+abbrev pub onto : ℕ → List (List ℕ) → List (List ℕ)
+onto b [] = (b ∷ []) ∷ []
+onto b (line ∷ lines) = (b ∷ line) ∷ lines
+
+-- the lines of a text, of which LF ends each but perhaps the last
+unfoldable pub lines_of : List ℕ → List (List ℕ)
+lines_of [] = []
+lines_of (b ∷ text) = cond (ends_line b) ([] ∷ lines_of text) (onto b (lines_of text))

@@ -1,112 +1,101 @@
 // The lines of a data file, the words of a line, and a sum of the file's bytes.
 #![tactic(auto)]
 
-ghost use Rattle.std.specs.Prelude.{◌≡◌, ◌+◌, ◌%◌, ◌^◌, ◌<◌, ◌≤◌, length, slice_index};
-ghost use Rattle.scan.specs.Words.{Between, Passed, largest, place_of, shifted as Words·shifted, spelled, past, word_at};
+ghost use Rattle.std.specs.Prelude.{◌≡◌, ◌-◌, ◌≤◌, ◌||◌, ◌==◌, length};
+ghost use Rattle.std.specs.List.{position, before_first, after_first};
+ghost use Rattle.std.specs.Iterator.{YieldsFirstRef, item_count};
+ghost use Rattle.scan.specs.Words.{largest, shifted, spelled, lead_of, value_of, after_word, lines_of};
 
 pub mod sums;
 
-// A word: its first byte, the number that its digits spell, and the place after the byte that ends it.
+// A word: its first byte and the number that its digits spell. Of no word both are 0, as of the numbers that a line leaves out.
 #[derive(Clone, Copy)]
 pub struct Word {
     pub lead: u8,
     pub value: u64,
-    pub next: usize,
+    pub ghost small: { value ≤ largest },
 }
 
-pub fn wide(b: u8) -> u64
-    ensures { (result ≡ b) × (result < 256) }
-{
-    b as u64
+// What is left of a text that is read word by word; a space or LF ends a word.
+#[derive(Clone, Copy)]
+pub struct Words<'a> {
+    pub rest: &'a [u8],
 }
 
-// Sums of counts and values wrap at 2^64; no run's counts come near.
-pub fn sum(a: u64, b: u64) -> u64
-    ensures { result ≡ (a + b) % 2 ^ 64 }
-{
-    std::num::wrapping_add_u64(a, b)
+// What is left of a text that is read line by line.
+#[derive(Clone, Copy)]
+pub struct Lines<'a> {
+    pub rest: &'a [u8],
 }
 
-// The first place from `from` on where `a` or `b` stands, or the length.
-fn find(text: &[u8], from: usize, a: u8, b: u8) -> usize
-    requires { from ≤ length text.now }
-    ensures { (result ≡ place_of text.now from a b) × Between from result (length text.now) }
+// The first place where `a` or `b` stands.
+fn find(text: &[u8], a: u8, b: u8) -> Option<usize>
+    ensures { result ≡ position (λ x. x == a || x == b) text.now }
 {
-    let mut at = from;
-    while at < text.len() {
-        if text[at] == a {
-            return at;
-        }
-        if text[at] == b {
-            return at;
-        }
-        at += 1;
+    text.iter().position(|x| *x == a || *x == b)
+}
+
+// What stands before the first `a` or `b`, and what stands after it.
+fn cut(text: &[u8], a: u8, b: u8) -> (&[u8], &[u8])
+    ensures before { result.0.now ≡ before_first (λ x. x == a || x == b) text.now }
+    ensures after { result.1.now ≡ after_first (λ x. x == a || x == b) text.now }
+{
+    match find(text, a, b) {
+        Some(n) => (&text[..n], &text[n + 1..]),
+        None => (text, &[]),
     }
-    at
 }
 
-// The end of the line that starts at `from`.
-pub fn line_end(text: &[u8], from: usize) -> usize
-    requires { from ≤ length text.now }
-    ensures { (result ≡ place_of text.now from 10 10) × Between from result (length text.now) }
-{
-    find(text, from, b'\n', b'\n')
-}
-
-// One digit more; any other byte, as the point, changes nothing.
+// One digit more; any other byte, as the point, changes nothing, nor does a digit too many.
 fn shifted(value: u64, b: u8) -> u64
-    requires { value ≤ largest }
-    ensures { (result ≡ Words·shifted value b) × (result ≤ largest) }
+    ensures { result ≡ shifted value b }
 {
-    let digit = wide(b);
-    if digit < 48 {
-        return value;
+    if b.is_ascii_digit() && value <= 1_000_000_000_000_000_000 {
+        10 * value + u64::from(b - b'0')
+    } else {
+        value
     }
-    if 57 < digit {
-        return value;
-    }
-    if 1000000000000000000 < value {
-        return value;
-    }
-    10 * value + (digit - 48)
 }
 
 // The number that the digits of a word spell.
 fn number(word: &[u8]) -> u64
-    ensures { (result ≡ spelled word.now) × (result ≤ largest) }
+    ensures spelled { result ≡ spelled word.now }
+    ensures small { result ≤ largest }
 {
-    let mut value = 0;
-    let mut at = 0;
-    while at < word.len() {
-        value = shifted(value, word[at]);
-        at += 1;
+    word.iter().fold(0, |value, b| shifted(value, *b))
+}
+
+impl<'a> Words<'a> {
+    // The next word; behind the last there is none.
+    pub fn next_word(&mut self) -> Word
+        ensures lead { result.lead ≡ lead_of self.old.rest.now }
+        ensures value { result.value ≡ value_of self.old.rest.now }
+        ensures rest { self.new.rest.now ≡ after_word self.old.rest.now }
+        ensures further { length self.new.rest.now ≤ length self.old.rest.now - 1 }
+    {
+        let text = self.rest;
+        let (word, rest) = cut(text, b' ', b'\n');
+        self.rest = rest;
+        Word {
+            lead: text.first().copied().unwrap_or(0),
+            value: number(word),
+        }
     }
-    value
 }
 
-fn lead_at(text: &[u8], at: usize) -> u8
-    ensures { result ≡ slice_index text.now at }
-{
-    if at < text.len() { text[at] } else { 0 }
-}
+impl<'a> Iterator for Lines<'a> {
+    type Item = &'a [u8];
 
-pub fn after(end: usize, size: usize) -> usize
-    requires { end ≤ size }
-    ensures { (result ≡ past end size) × Passed end 0 result size }
-{
-    if end < size { end + 1 } else { end }
-}
+    ghost next_gives = { YieldsFirstRef (λ s. lines_of s.rest.now) };
 
-// The word that starts at `from`; a space or the line's end ends it.
-pub fn next_word(text: &[u8], from: usize) -> Word
-    requires { from ≤ length text.now }
-    ensures { (result ≡ word_at text.now from) × Passed from result.value result.next (length text.now) }
-{
-    let end = find(text, from, b' ', b'\n');
-    let value = number(&text[from..end]);
-    Word {
-        lead: lead_at(text, from),
-        value,
-        next: after(end, text.len()),
+    ghost remaining = { item_count (λ s. lines_of s.rest.now) };
+
+    fn next(&mut self) -> Option<&'a [u8]> {
+        if self.rest.is_empty() {
+            return None;
+        }
+        let (line, rest) = cut(self.rest, b'\n', b'\n');
+        self.rest = rest;
+        Some(line)
     }
 }

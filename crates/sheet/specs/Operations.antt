@@ -1,6 +1,7 @@
 -- The operations on a plain list with holes, and what a sheet promises of each (request 7); the ends and totals that it keeps (request 8).
-use Rattle.std.specs.Prelude.{ℕ, ◌+◌, ◌≡◌, List, length}
-use Rattle.std.proofs.Math.Option.{Option, none, some}
+use Rattle.std.specs.Prelude.{ℕ, ◌+◌, ◌≡◌, List, length, Option, None, Some, Result, Ok, Err}
+use Rattle.std.proofs.Math.Option as maybe
+use Rattle.std.proofs.Math.Option.{none, some}
 use Rattle.guidance.specs.declared.Case.{Case}
 use Rattle.hexadecimals.specs.Digits.{bytes_of}
 use Rattle.refusals.specs.Order.{first_of}
@@ -12,11 +13,7 @@ use Rattle.places.specs.Places.{stands_for}
 use Rattle.totals.specs.Totals.{totals_of}
 use Rattle.sheet.specs.declared.Sheet.{Sheet}
 use Rattle.sheet.specs.declared.Refusal.{Refusal}
-use Rattle.sheet.specs.declared.Vacancy.TheVariants.{Vacant}
-use Rattle.sheet.specs.declared.Placing.{Placing}
-use Rattle.sheet.specs.declared.Placing.TheVariants as placed
-use Rattle.sheet.specs.declared.Found.{Found}
-use Rattle.sheet.specs.declared.Found.TheVariants as there
+use Rattle.sheet.specs.declared.Vacancy.{Vacancy}
 use Rattle.sheet.specs.Refusals.{number, vacancy_number}
 use Rattle.sheet.specs.Tests.{add_tests}
 use Rattle.sheet.specs.Ends.{UpperEnd}
@@ -31,8 +28,8 @@ pub data Operation : Type 0 where
 
 -- an answer: of adding, of a place, of closing
 pub data Told : Type 0 where
-  placing : Placing → Told
-  finding : Found → Told
+  placing : Result ℕ Refusal → Told
+  finding : Result Case Vacancy → Told
   counting : ℕ → Told
 
 -- the list after an operation, and the answer
@@ -41,21 +38,21 @@ pub record Outcome : Type 0 where
   pub told : Told
 
 -- the first test that applies refuses; a case to which none applies goes right after the last, and its place is told
-unfoldable pub adding : Option Refusal → List (Option Held) → Held → Outcome
-adding none xs h = record { list = added xs h; told = placing (placed.At (length xs + 1)) }
-adding (some r) xs h = record { list = xs; told = placing (placed.Refused r) }
+unfoldable pub adding : maybe.Option Refusal → List (Option Held) → Held → Outcome
+adding none xs h = record { list = added xs h; told = placing (Ok (length xs + 1)) }
+adding (some r) xs h = record { list = xs; told = placing (Err r) }
 
-abbrev pub found_in : Option Held → Found
-found_in none = there.Refused Vacant
-found_in (some h) = there.Held h.case
+abbrev pub found_in : Option Held → Result Case Vacancy
+found_in None = Err (record {})
+found_in (Some h) = Ok h.case
 
-unfoldable pub found : List (Option Held) → (place : ℕ) → Found
+unfoldable pub found : List (Option Held) → (place : ℕ) → Result Case Vacancy
 found xs k = found_in (at xs k)
 
 -- a case that is there leaves a gap, else nothing happens
 abbrev pub without : Option Held → List (Option Held) → (place : ℕ) → List (Option Held)
-without none xs k = xs
-without (some h) xs k = withdrawn xs k
+without None xs k = xs
+without (Some h) xs k = withdrawn xs k
 
 abbrev pub held_of : Case → (upper : ℕ) → Held
 held_of c u = record { case = c; upper = u }
@@ -68,11 +65,11 @@ act xs close = record { list = closed xs; told = counting (length (closed xs)) }
 act xs (case_at k) = record { list = xs; told = finding (found xs k) }
 
 -- the refusal in an answer, by its number
-abbrev pub refusal : Told → Option ℕ
-refusal (placing (placed.At k)) = none
-refusal (placing (placed.Refused r)) = some (number r)
-refusal (finding (there.Held c)) = none
-refusal (finding (there.Refused v)) = some (vacancy_number v)
+abbrev pub refusal : Told → maybe.Option ℕ
+refusal (placing (Ok k)) = none
+refusal (placing (Err r)) = some (number r)
+refusal (finding (Ok c)) = none
+refusal (finding (Err v)) = some (vacancy_number v)
 refusal (counting n) = none
 
 -- the end that is given with a case is one of its own

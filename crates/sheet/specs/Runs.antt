@@ -1,6 +1,5 @@
 -- A sequence of operations, each on the sheet that the one before it handed back (request 7).
-use Rattle.std.specs.Prelude.{List, [], ◌∷◌}
-use Rattle.std.proofs.Math.Option.{Option}
+use Rattle.std.specs.Prelude.{List, [], ◌∷◌, Option}
 use Rattle.places.specs.declared.Held.{Held}
 use Rattle.sheet.specs.declared.Sheet.{Sheet}
 use Rattle.sheet.specs.Operations.{Operation, Told, act, Does}

@@ -1,6 +1,5 @@
 -- The tests of a case that is added to a sheet (request 7).
-use Rattle.std.specs.Prelude.{Bool, List, [], ◌∷◌, ◌++◌, length, eqb}
-use Rattle.std.proofs.Math.Option.{Option}
+use Rattle.std.specs.Prelude.{Bool, List, [], ◌∷◌, ◌++◌, length, eqb, Option}
 use Rattle.guidance.specs.declared.Case.{Case}
 use Rattle.refusals.specs.declared.Fault.{Fault}
 use Rattle.refusals.specs.Order.{Test, ◌when◌, held}

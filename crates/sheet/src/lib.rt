@@ -1,23 +1,22 @@
 // The study sheet: the cases of a yard's receptors, up to 64, each at its place.
-// A refused operation hands the sheet back equal. Of every value of the type each operation ends, and does as on the list that it stands for.
+// A refused operation leaves the sheet equal. Of every value of the type each operation ends, and does as on the list that it stands for.
 // The totals are kept up: right ones stay right, and those of the empty sheet are.
 #![tactic(auto)]
 
 ghost use Rattle.std.specs.Prelude.{◌≡◌, [], ◌≤◌, ◌<◌, length};
 ghost use Rattle.std.proofs.Math.Option.{none};
 ghost use Rattle.guidance.specs.CloudWords.{Heated};
-ghost use Rattle.refusals.specs.Faults.{filled};
 ghost use Rattle.places.specs.Holes.{withdrawn};
 ghost use Rattle.totals.specs.Keeping.{after_withdrawing};
 ghost use Rattle.limits.specs.Checks.{HeatedIfSound};
-ghost use Rattle.sheet.specs.Refusals.{number, word, vacancy_number, vacancy_word};
+ghost use Rattle.sheet.specs.declared.Refusal.TheVariants.{Faulty};
+ghost use Rattle.sheet.specs.Refusals.{number, word, told, vacancy_number, vacancy_word, vacancy_told};
 ghost use Rattle.sheet.specs.Operations.{add_frame, add_line, withdraw, close, placing, finding, counting, adding, list_of, Right, found, Gives, Does, DoesWith};
 ghost use Rattle.sheet.specs.Steps.{Enters};
 
 use guidance::Case;
-use limits::Checked;
-use places::{Content, Held, Places};
-use refusals::Fault;
+use places::{Held, Places};
+use refusals::{Fault, Reason};
 use totals::Totals;
 
 #[derive(Clone, Copy)]
@@ -27,7 +26,7 @@ pub struct Sheet {
 }
 
 // Why a case is not added, in the order of the tests: a fault of its own, then 7 and 17.
-#[derive(Clone, Copy)]
+#[derive(Clone, Copy, Debug, PartialEq, Eq)]
 pub enum Refusal {
     Faulty(Fault),
     Beyond,
@@ -35,81 +34,55 @@ pub enum Refusal {
     Full,
 }
 
-// Why a place gives no case: 18.
-#[derive(Clone, Copy)]
-pub enum Vacancy {
-    Vacant,
-}
+// The only reason for which a place gives no case, 18: it holds none.
+#[derive(Clone, Copy, Debug, PartialEq, Eq)]
+pub struct Vacancy;
 
-// The place of a case that was added, or the first test that applies.
-#[derive(Clone, Copy)]
-pub enum Placing {
-    At(usize),
-    Refused(Refusal),
-}
+impl From<Fault> for Refusal {
+    ghost from_gives = { λ f r. r ≡ Faulty f };
 
-// The case at a place.
-#[derive(Clone, Copy)]
-pub enum Found {
-    Held(Case),
-    Refused(Vacancy),
-}
-
-// What adding hands back.
-#[derive(Clone, Copy)]
-pub struct Added {
-    pub sheet: Sheet,
-    pub answer: Placing,
-}
-
-// What withdrawing hands back: with the sheet, the case that was withdrawn.
-#[derive(Clone, Copy)]
-pub struct Withdrawn {
-    pub sheet: Sheet,
-    pub answer: Found,
-}
-
-// What closing hands back: with the sheet, the number of its cases.
-#[derive(Clone, Copy)]
-pub struct Closed {
-    pub sheet: Sheet,
-    pub answer: usize,
-}
-
-pub fn number_of(r: Refusal) -> u64
-    ensures { result ≡ number r }
-{
-    match r {
-        Refusal::Faulty(f) => refusals::number_of(f),
-        Refusal::Beyond => 7,
-        Refusal::Full => 17,
+    fn from(f: Fault) -> Refusal {
+        Refusal::Faulty(f)
     }
 }
 
-// The refusal's word, filled with zeros to 12 bytes.
-pub fn word_of(r: Refusal) -> [u8; 12]
-    ensures { result ≡ filled (word r) }
-{
-    match r {
-        Refusal::Faulty(f) => refusals::word_of(f),
-        Refusal::Beyond => *b"beyond\0\0\0\0\0\0",
-        Refusal::Full => *b"full\0\0\0\0\0\0\0\0",
+impl Reason for Refusal {
+    ghost number_told = { number };
+
+    ghost word_told = { word };
+
+    ghost tells = { told };
+
+    fn number(self) -> u64 {
+        match self {
+            Refusal::Faulty(f) => f.number(),
+            Refusal::Beyond => 7,
+            Refusal::Full => 17,
+        }
+    }
+
+    fn word(self) -> [u8; 12] {
+        match self {
+            Refusal::Faulty(f) => f.word(),
+            Refusal::Beyond => *b"beyond\0\0\0\0\0\0",
+            Refusal::Full => *b"full\0\0\0\0\0\0\0\0",
+        }
     }
 }
 
-pub fn number_of_vacancy(v: Vacancy) -> u64
-    ensures { result ≡ vacancy_number v }
-{
-    match v {
-        Vacancy::Vacant => 18,
-    }
-}
+impl Reason for Vacancy {
+    ghost number_told = { vacancy_number };
 
-pub fn word_of_vacancy(v: Vacancy) -> [u8; 12]
-    ensures { result ≡ filled (vacancy_word v) }
-{
-    match v {
-        Vacancy::Vacant => *b"vacant\0\0\0\0\0\0",
+    ghost word_told = { vacancy_word };
+
+    ghost tells = { vacancy_told };
+
+    fn number(self) -> u64 {
+        18
+    }
+
+    fn word(self) -> [u8; 12] {
+        *b"vacant\0\0\0\0\0\0"
     }
 }
 
@@ -123,131 +96,88 @@ impl Sheet {
         }
     }
 
-    fn refused(self, r: Refusal) -> Added
-        ensures { result ≡ record { sheet = self; answer = Placing.Refused r } }
+    // A case right after the last; its place.
+    fn put(&mut self, last: usize, held: Held) -> usize
+        requires { (last ≡ length (list_of self.old)) × (last < 64) }
+        ensures { Gives self.old (adding none (list_of self.old) held) self.new (placing (Ok result)) }
     {
-        Added {
-            sheet: self,
-            answer: Placing::Refused(r),
-        }
-    }
-
-    // A case right after the last.
-    fn put(mut self, last: usize, h: Held) -> Added
-        requires { (last ≡ length (list_of self)) × (last < 64) }
-        ensures { Gives self (adding none (list_of self) h) result.sheet (placing result.answer) }
-    {
-        let places = self.places.with(last + 1, Content::Taken(h));
-        self.totals = self.totals.after_adding(places, last + 1, h);
-        self.places = places;
-        Added {
-            sheet: self,
-            answer: Placing::At(last + 1),
-        }
+        let place = last + 1;
+        self.places.put(place, Some(held));
+        self.totals = self.totals.after_adding(&self.places, place, held);
+        place
     }
 
     // Tests 7 and 17, then the case with the upper end of its overpressure.
-    fn place(self, c: Case) -> Added
+    fn place(&mut self, c: Case) -> Result<usize, Refusal>
         requires { Heated c }
-        ensures { Enters self (Checked.Sound c) result }
+        ensures { Enters self.old (Ok c) self.new result }
     {
-        let last = self.places.last();
-        let beyond = frame::is_beyond(c);
-        if beyond {
-            return self.refused(Refusal::Beyond);
+        if frame::is_beyond(c) {
+            return Err(Refusal::Beyond);
         }
+        let last = self.places.last();
         if last == 64 {
-            return self.refused(Refusal::Full);
+            return Err(Refusal::Full);
         }
         let ends = blast::pressure(c, guidance::air_of(c));
         let upper = ends.upper;
-        self.put(last, Held { case: c, upper })
+        Ok(self.put(last, Held { case: c, upper }))
     }
 
     // What tests 1 to 6 found stands, else 7 and 17 decide.
-    fn enter(self, s: Checked) -> Added
-        requires { HeatedIfSound s }
-        ensures { Enters self s result }
+    fn enter(&mut self, tested: Result<Case, Fault>) -> Result<usize, Refusal>
+        requires { HeatedIfSound tested }
+        ensures { Enters self.old tested self.new result }
     {
-        match s {
-            Checked::Sound(c) => self.place(c),
-            Checked::Unsound(f) => self.refused(Refusal::Faulty(f)),
-        }
+        self.place(tested?)
     }
 
-    // The case of a frame's bytes, right after the last one; its place is told.
-    pub fn add_frame(mut self, frame: &[u8]) -> Added
-        ensures { DoesWith self (add_frame frame.now) result.sheet (placing result.answer) }
+    // The case of a frame's bytes, right after the last one; its place, or the first test that applies.
+    pub fn add_frame(&mut self, frame: &[u8]) -> Result<usize, Refusal>
+        ensures { DoesWith self.old (add_frame frame.now) self.new (placing result) }
     {
-        let s = frame::check_frame(frame);
-        self.enter(s)
+        self.enter(frame::check_frame(frame))
     }
 
     // The same for a case given as a line.
-    pub fn add_line(mut self, line: &[u8]) -> Added
-        ensures { DoesWith self (add_line line.now) result.sheet (placing result.answer) }
+    pub fn add_line(&mut self, line: &[u8]) -> Result<usize, Refusal>
+        ensures { DoesWith self.old (add_line line.now) self.new (placing result) }
     {
-        let s = frame::check_line(line);
-        self.enter(s)
+        self.enter(frame::check_line(line))
     }
 
     // A gap in the place of a case.
-    fn take(mut self, place: usize) -> Self
+    fn take(&mut self, place: usize)
         requires { (1 ≤ place) × (place ≤ 64) }
-        ensures { (list_of result ≡ withdrawn (list_of self) place) × (result.totals ≡ after_withdrawing self.totals result.places place) }
+        ensures { (list_of self.new ≡ withdrawn (list_of self.old) place) × (self.new.totals ≡ after_withdrawing self.old.totals self.new.places place) }
     {
-        let places = self.places.with(place, Content::Hole);
-        self.totals = self.totals.after_withdrawing(places, place);
-        self.places = places;
-        self
+        self.places.put(place, None);
+        self.totals = self.totals.after_withdrawing(&self.places, place);
     }
 
     // The case at a place goes and leaves a gap; nothing moves.
-    pub fn withdraw(mut self, place: usize) -> Withdrawn
-        ensures { Does self (withdraw place) result.sheet (finding result.answer) }
+    pub fn withdraw(&mut self, place: usize) -> Result<Case, Vacancy>
+        ensures { Does self.old (withdraw place) self.new (finding result) }
     {
-        let content = self.places.content_at(place);
-        match content {
-            Content::Hole => Withdrawn {
-                sheet: self,
-                answer: Found::Refused(Vacancy::Vacant),
-            },
-            Content::Taken(h) => {
-                let sheet = self.take(place);
-                let c = h.case;
-                Withdrawn {
-                    sheet,
-                    answer: Found::Held(c),
-                }
-            }
-        }
+        let held = self.places.content_at(place).ok_or(Vacancy)?;
+        self.take(place);
+        Ok(held.case)
     }
 
-    // The gaps go, the cases in order from place 1 on.
-    pub fn close(mut self) -> Closed
-        ensures { Does self close result.sheet (counting result.answer) }
+    // The gaps go, the cases in order from place 1 on; how many there are.
+    pub fn close(&mut self) -> usize
+        ensures { Does self.old close self.new (counting result) }
     {
-        let places = self.places.close();
-        self.totals = totals::afresh(places);
-        let count = places.last();
-        self.places = places;
-        Closed {
-            sheet: self,
-            answer: count,
-        }
+        self.places.close();
+        self.totals = totals::afresh(&self.places);
+        self.places.last()
     }
 
     // The case at a place.
-    pub fn case_at(self, place: usize) -> Found
-        ensures { result ≡ found (list_of self) place }
+    pub fn case_at(&self, place: usize) -> Result<Case, Vacancy>
+        ensures { result ≡ found (list_of self.now) place }
     {
-        let content = self.places.content_at(place);
-        match content {
-            Content::Hole => Found::Refused(Vacancy::Vacant),
-            Content::Taken(h) => {
-                let c = h.case;
-                Found::Held(c)
-            }
-        }
+        let held = self.places.content_at(place).ok_or(Vacancy)?;
+        Ok(held.case)
     }
 }

@@ -1,26 +1,23 @@
 -- The 32 bytes of one place, from what their writers promise. Assumes nothing.
+use Rattle.std.specs.Prelude.{Some}
 use Prim.Native.Nat.{ℕ}
-use mathlib.Core.Path.{◌≡◌, refl, sym, ap, ◌∙◌}
+use mathlib.Core.Path.{◌≡◌, refl, ap, ◌∙◌}
 use mathlib.Core.List.{List, ◌++◌}
-use mathlib.Core.Option.{some}
 use native.Mathlib.Omega.{arith}
 use lib.ListN.{length, drop, replicate, length-append}
 use lib.Seq.{length-sets}
 use borrow.Rule.Slice.PartMut.{mid_of, put_mid}
-use Rattle.byte_numbers.specs.Numbers.{one, two, four, eight}
+use Rattle.byte_numbers.specs.Numbers.{one, two, four}
 use Rattle.byte_numbers.specs.Storing.{Stored}
-use Rattle.byte_numbers.specs.laws.Storing.{and_then, stored_as, through_part, at_start, sets_all}
+use Rattle.byte_numbers.specs.laws.Storing.{and_then, stored_as, through_part, at_start}
 use Rattle.fields.specs.Bytes.{first_bytes}
 use Rattle.fields.specs.laws.Back.{first_length}
 use Rattle.places.specs.declared.Held.{Held}
 use Rattle.sheet_bytes.specs.Packing.{air_word, place_bytes}
 
--- four times eight zeros
-pub zeros : (l a b d z : List ℕ) → length l ≡ 32 → Stored l 0 (eight 0) a → Stored a 8 (eight 0) b → Stored b 16 (eight 0) d → Stored d 24 (eight 0) z → z ≡ replicate 32 0
-unfolding eight four
-zeros l a b d z size p q r s =
-    let all = and_then (and_then (and_then p q refl) r refl) s refl in
-    all.all ∙ sets_all l (eight 0 ++ eight 0 ++ eight 0 ++ eight 0) (sym size)
+-- what is filled with zeros
+pub zeros : (l z : List ℕ) → length l ≡ 32 → z ≡ replicate (length l) 0 → z ≡ replicate 32 0
+zeros l z size e = e ∙ ap (λ (n : ℕ). replicate n 0) size
 
 -- 1, the first bytes of a frame, an end and an air pressure, over zeros
 pub case_stored
@@ -32,7 +29,7 @@ pub case_stored
     Stored (put_mid 1 k a part) 23 (four h.upper) b →
     word ≡ air_word h.case.air →
     Stored b 27 (two word) d →
-    d ≡ place_bytes (some h)
+    d ≡ place_bytes (Some h)
 unfolding place_bytes one two four
 case_stored z a part b d h k word width e p w q is r =
     let first = first_bytes h.case in

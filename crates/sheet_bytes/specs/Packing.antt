@@ -1,7 +1,6 @@
 -- A study sheet as lent bytes: 64 places of 32 bytes, one after the other (request 7), with each case the upper end that is kept (request 8) and its
 -- air pressure (request 11).
-use Rattle.std.specs.Prelude.{ℕ, zero, suc, Bool, cond, List, [], ◌∷◌, ◌++◌, length, take, drop, replicate, eqb, ltb}
-use Rattle.std.proofs.Math.Option.{Option, none, some}
+use Rattle.std.specs.Prelude.{ℕ, zero, suc, ◌*◌, Bool, cond, List, [], ◌∷◌, ◌++◌, length, take, drop, replicate, eqb, ltb, Option, None, Some}
 use Rattle.guidance.specs.declared.Case.{Case}
 use Rattle.guidance.specs.AirPressure.{standard, in_air}
 use Rattle.byte_numbers.specs.Numbers.{one_at, two_at, four_at, one, two, four}
@@ -18,8 +17,8 @@ air_of_word n = cond (eqb n 0) standard n
 
 -- a hole is 32 zeros; a case is 1, the first 22 bytes of its frame, its upper end in 4, its air pressure in 2, and 3 zeros
 unfoldable pub place_bytes : Option Held → List ℕ
-place_bytes none = replicate 32 0
-place_bytes (some h) = one 1 ++ first_bytes h.case ++ four h.upper ++ two (air_word h.case.air) ++ replicate 3 0
+place_bytes None = replicate 32 0
+place_bytes (Some h) = one 1 ++ first_bytes h.case ++ four h.upper ++ two (air_word h.case.air) ++ replicate 3 0
 
 -- places one after the other
 unfoldable pub packed : List (Option Held) → List ℕ
@@ -29,7 +28,7 @@ packed (x ∷ xs) = place_bytes x ++ packed xs
 -- n places: a list cut to them, or filled up with holes
 unfoldable pub pad : (n : ℕ) → List (Option Held) → List (Option Held)
 pad zero xs = []
-pad (suc n) [] = none ∷ pad n []
+pad (suc n) [] = None ∷ pad n []
 pad (suc n) (x ∷ xs) = x ∷ pad n xs
 
 -- the bytes of the sheet that stands for a list
@@ -41,7 +40,11 @@ abbrev pub case_in : List ℕ → Case
 case_in place = in_air (fields_of (take 22 (drop 1 place))) (air_of_word (two_at place 27))
 
 unfoldable pub held_in : List ℕ → Option Held
-held_in place = cond (eqb (one_at place 0) 0) none (some (record { case = case_in place; upper = four_at place 23 }))
+held_in place = cond (eqb (one_at place 0) 0) None (Some (record { case = case_in place; upper = four_at place 23 }))
+
+-- what place i + 1 holds
+abbrev pub read_at : List ℕ → (i : ℕ) → Option Held
+read_at s i = held_in (take 32 (drop (32 * i) s))
 
 -- what the first n places hold
 unfoldable pub unpacked : (n : ℕ) → List ℕ → List (Option Held)

@@ -30,25 +30,26 @@ lower_exponent a b g = elim (dec_le b.e a.e) [ yes l ↦ l | no n ↦ absurd (ne
           mul-le-mul_right A (le_trans g.left.ordered g.left.most),
         )
 
-module _ (a b : Span) (t u : ℕ) (g : Subtractable a b) (down : ShiftedDown b.lo (a.e - b.e) t) (up : ShiftedUp b.hi (a.e - b.e) u) where
+module _ (a b : Span) (g : Subtractable a b) where
   share : 4 * b.hi ≤ 3 * a.lo * 2 ^ (a.e - b.e)
   share =
       le_of_mul-le-mul_right {k = 2 ^ b.e}
       (omega (arith, g.share, moved a.lo a.e b.e (a.e - b.e) (omega (arith, lower_exponent a b g)))) (pow_pos b.e)
 
   -- what is taken from either end is not more than there is
-  pub upper_taken : u ≤ a.lo
-  upper_taken =
+  pub upper_taken : (u : ℕ) → ShiftedUp b.hi (a.e - b.e) u → u ≤ a.lo
+  upper_taken u up =
       let l : u < a.lo + 1 = lt_of_mul-lt-mul_right (4 * 2 ^ (a.e - b.e)) (omega (arith, share, up.near)) in omega arith
 
-  pub lower_taken : 4 * t ≤ 3 * a.lo
-  lower_taken = le_of_mul-le-mul_right {k = 2 ^ (a.e - b.e)} (omega (arith, share, down.below)) (pow_pos (a.e - b.e))
+  pub lower_taken : (t : ℕ) → ShiftedDown b.lo (a.e - b.e) t → 4 * t ≤ 3 * a.lo
+  lower_taken t down = le_of_mul-le-mul_right {k = 2 ^ (a.e - b.e)} (omega (arith, share, down.below)) (pow_pos (a.e - b.e))
 
+module _ (a b : Span) (t u : ℕ) (g : Subtractable a b) (down : ShiftedDown b.lo (a.e - b.e) t) (up : ShiftedUp b.hi (a.e - b.e) u) where
   taken_ordered : t ≤ u
   taken_ordered = le_of_mul-le-mul_right {k = 2 ^ (a.e - b.e)} (omega arith) (pow_pos (a.e - b.e))
 
   pub difference_roundable : (l h : ℕ) → l + u ≡ a.lo → h + t ≡ a.hi → Roundable l h a.e
-  difference_roundable l h el eh = let o = taken_ordered in let k = lower_taken in omega arith
+  difference_roundable l h el eh = let o = taken_ordered in let k = lower_taken a b g t down in omega arith
 
   pub difference_rounded : (r : Span) (l h : ℕ) → l + u ≡ a.lo → h + t ≡ a.hi → Rounded l h a.e r → Difference a b r
   unfolding hull
@@ -56,7 +57,7 @@ module _ (a b : Span) (t u : ℕ) (g : Subtractable a b) (down : ShiftedDown b.l
       let d = a.e - b.e in
       let at : a.e ≡ b.e + d = omega (arith, lower_exponent a b g) in
       let A = 2 ^ a.e in
-      let k = lower_taken in
+      let k = lower_taken a b g t down in
       record {
         normal = n.normal;
         holds =
@@ -66,7 +67,7 @@ module _ (a b : Span) (t u : ℕ) (g : Subtractable a b) (down : ShiftedDown b.l
         width = λ C D v w.
             wider (omega arith)
             (n.width (4 * (C + D) + 8)
-            (difference_width a.lo a.hi b.lo b.hi t u l h (2 ^ d) C D (pow_pos d) (omega arith) (omega arith) el eh (omega arith) share (omega arith) (omega arith) v w));
+            (difference_width a.lo a.hi b.lo b.hi t u l h (2 ^ d) C D (pow_pos d) (omega arith) (omega arith) el eh (omega arith) (share a b g) (omega arith) (omega arith) v w));
         least = omega (arith, n.least 28 (omega arith));
         most = omega (arith, n.most 32 (omega arith));
       }

@@ -5,6 +5,8 @@ use Prim.Native.Nat.{ℕ, zero, suc, ◌+◌, ◌*◌, ◌/◌, ◌-◌, ◌^◌
 use native.Mathlib.Nat.{le_trans, le_of_eq, mul-pos, mul-le-mul, mul-le-mul_right, le_of_mul-le-mul_right, lt_of_mul-lt-mul_right}
 use native.Mathlib.Omega.{arith}
 use lib.Pow.{pow_pos}
+use Rattle.std.specs.Int.{div_ceil}
+use Rattle.std.proofs.lemmas.Grind.{div_ceil_times}
 use Rattle.exact.specs.Fraction.{Frac, ◌⊑◌, ◌⊞◌}
 use Rattle.exact.proofs.laws.Frac.{⊑_trans}
 use Rattle.exact.specs.Holding.{◌∈◌}
@@ -13,7 +15,7 @@ use Rattle.span.specs.Spans.{unit, unit_positive, units, hull, whole_f, Whole, F
 use Rattle.span.specs.Rounding.{Cuttable, Roundable, Rounded, ShiftedDown, ShiftedUp, Aligned}
 use Rattle.span.specs.Enclosing.{wider, divisor}
 use Rattle.span.specs.Bounds.{fraction_in, whole_at, quotient_at}
-use Rattle.span.specs.Powers.{powers, shared, factored, product_high, quotient, quotient_least, quotient_below}
+use Rattle.span.specs.Powers.{powers, shared, factored, product_high, quotient}
 use Rattle.span.proofs.Points.{product_points, quotient_points, sum_points}
 use Rattle.span.proofs.Widths.{product_width, quotient_width, sum_width}
 
@@ -119,23 +121,22 @@ pub record Divided (a b : Span) (l h : ℕ) : Type 0 where
   pub least : 2 ^ 31 ≤ h
   pub most : h < 2 ^ 35
 
-divided_by : (a b : Span) → Divisible a b → Divided a b (a.lo * 2 ^ 32 / b.hi) ((a.hi * 2 ^ 32 + (b.lo - 1)) / b.lo)
+divided_by : (a b : Span) → Divisible a b → Divided a b (a.lo * 2 ^ 32 / b.hi) (div_ceil (a.hi * 2 ^ 32) b.lo)
 divided_by a b d =
-    let x = a.hi * 2 ^ 32 + (b.lo - 1) in
-    let ql = quotient (a.lo * 2 ^ 32) b.hi (omega arith) in
-    let qh = quotient x b.lo (omega arith) in
+    let below = quotient (a.lo * 2 ^ 32) b.hi (omega arith) in
+    let above = div_ceil_times (a.hi * 2 ^ 32) b.lo (omega arith) in
     record {
-      low_below = ql.0;
-      low_near = omega arith;
-      high_above = omega arith;
-      high_near = omega arith;
-      least = quotient_least x b.lo (2 ^ 31) (omega arith) (omega arith);
-      most = quotient_below x b.lo (2 ^ 35) (omega arith) (omega arith);
+      low_below = below.0;
+      low_near = below.1;
+      high_above = above.0;
+      high_near = above.1;
+      least = le_of_mul-le-mul_right {k = b.lo} (omega (arith, above.0)) (omega arith);
+      most = lt_of_mul-lt-mul_right b.lo (omega (arith, above.1));
     }
 
--- x over p and y over q are what the source divides
-pub divided : (a b : Span) (x p y q : ℕ) → Divisible a b → x ≡ a.lo * 2 ^ 32 → p ≡ b.hi → y ≡ a.hi * 2 ^ 32 + (b.lo - 1) → q ≡ b.lo → Divided a b (x / p) (y / q)
-divided a b x p y q d ex ep ey eq = rw (ex, ep, ey, eq) (divided_by a b d)
+-- l and h are what the source divides
+pub divided : (a b : Span) (l h : ℕ) → Divisible a b → l ≡ a.lo * 2 ^ 32 / b.hi → h ≡ div_ceil (a.hi * 2 ^ 32) b.lo → Divided a b l h
+divided a b l h d el eh = rw (el, eh) (divided_by a b d)
 
 pub quotient_roundable : (a b : Span) (l h : ℕ) → Divisible a b → Divided a b l h → Roundable l h (a.e + 992 - b.e)
 quotient_roundable a b l h d v =

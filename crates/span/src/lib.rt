@@ -1,12 +1,14 @@
 // Positive intervals on machine words: two mantissas, one biased exponent, every rounding outward.
 // All operations are exact u64 arithmetic followed by `cut`, the one place that rounds.
+// They are functions by name, not operators: each asks something else of its spans, and a formula is read call by call beside its proof.
 #![tactic(auto)]
 
-ghost use Rattle.std.specs.Prelude.{◌≡◌, ◌+◌, ◌*◌, ◌-◌, ◌^◌, ◌≤◌, ◌<◌};
+ghost use Rattle.std.specs.Prelude.{◌≡◌, ◌^◌, ◌≤◌, ◌<◌};
 ghost use Rattle.span.specs.Spans.{Normal, Whole, FractionOf, Factors, Product, Divisible, DivisibleBy, Quotient, WholeQuotient, Summands, Sum, Floor, Ceiling, Subtractable, Difference, Smaller, below};
 ghost use Rattle.span.specs.Rounding.{Cuttable, Roundable, Rounded, Aligned, ShiftedDown, ShiftedUp, Ratio, Compared};
 
 // The numbers from lo·2^e / 2^1024 to hi·2^e / 2^1024.
+// No invariant asks that it is normal: the laws of `specs/` hold of every span, and `enclosure_linked` tests what C hands it as one.
 #[derive(Clone, Copy)]
 pub struct Span {
     pub lo: u64,
@@ -14,15 +16,25 @@ pub struct Span {
     pub e: u32,
 }
 
+impl Span {
+    // The number 1 and no other.
+    pub const ONE: Span = Span {
+        lo: 1073741824,
+        hi: 1073741824,
+        e: 994,
+    };
+}
+
 // The exact interval from lo·2^e to hi·2^e without its last s bits, rounded outward: the floor and the ceiling.
 fn cut(lo: u64, hi: u64, e: u32, s: u32) -> Span
     requires { Cuttable lo hi e s }
     ensures { Rounded lo hi e result }
 {
-    let l = lo >> s;
-    let h = ((hi - 1) >> s) + 1;
-    let f = e + s;
-    Span { lo: l, hi: h, e: f }
+    Span {
+        lo: lo >> s,
+        hi: ((hi - 1) >> s) + 1,
+        e: e + s,
+    }
 }
 
 // The exact interval with an upper end of any length, to mantissas of 31 bits.
@@ -30,16 +42,16 @@ fn norm(lo: u64, hi: u64, e: u32) -> Span
     requires { Roundable lo hi e }
     ensures { Rounded lo hi e result }
 {
-    let z = u64::leading_zeros(hi);
-    if z >= 33 {
-        let s = z - 33;
-        let l = lo << s;
-        let h = hi << s;
-        let f = e - s;
-        Span { lo: l, hi: h, e: f }
+    let zeros = hi.leading_zeros();
+    if zeros >= 33 {
+        let s = zeros - 33;
+        Span {
+            lo: lo << s,
+            hi: hi << s,
+            e: e - s,
+        }
     } else {
-        let s = 33 - z;
-        cut(lo, hi, e, s)
+        cut(lo, hi, e, 33 - zeros)
     }
 }
 
@@ -56,9 +68,7 @@ pub fn fraction(n: u64, d: u64) -> Span
     requires { (0 < n) × (0 < d) }
     ensures { FractionOf n d result }
 {
-    let a = whole(n);
-    let b = whole(d);
-    quo(a, b)
+    quo(whole(n), whole(d))
 }
 
 // The product. The highest bit of its upper end is bit 60 or 61, or 62 at 2^31 by 2^31: a shift tells which.
@@ -66,11 +76,9 @@ pub fn mul(a: Span, b: Span) -> Span
     requires { Factors a b }
     ensures { Product a b result }
 {
-    let l = a.lo * b.lo;
-    let h = a.hi * b.hi;
-    let e = a.e + b.e - 1024;
-    let t = (h >> 61) as u32;
-    cut(l, h, e, 30 + t)
+    let hi = a.hi * b.hi;
+    let more = (hi >> 61) as u32;
+    cut(a.lo * b.lo, hi, a.e + b.e - 1024, 30 + more)
 }
 
 // The quotient. A multiplication stands for the shift: no bit is lost, and omega reads it.
@@ -78,10 +86,9 @@ pub fn quo(a: Span, b: Span) -> Span
     requires { Divisible a b }
     ensures { Quotient a b result }
 {
-    let l = a.lo * 0x1_0000_0000 / b.hi;
-    let h = (a.hi * 0x1_0000_0000 + (b.lo - 1)) / b.lo;
-    let e = a.e + 992 - b.e;
-    norm(l, h, e)
+    let lo = a.lo * 0x1_0000_0000 / b.hi;
+    let hi = (a.hi * 0x1_0000_0000).div_ceil(b.lo);
+    norm(lo, hi, a.e + 992 - b.e)
 }
 
 // The quotient by a whole number above 0 that mostly is `usual`: where a caller writes that as a constant, nothing is divided by it at run time.
@@ -90,11 +97,10 @@ pub fn quo_whole(a: Span, n: u64, usual: u64) -> Span
     ensures { WholeQuotient a n result }
 {
     if n == usual {
-        let b = whole(usual);
-        return quo(a, b);
+        quo(a, whole(usual))
+    } else {
+        quo(a, whole(n))
     }
-    let d = whole(n);
-    quo(a, d)
 }
 
 // m / 2^d, rounded downward, for every d.
@@ -102,7 +108,7 @@ fn shr_down(m: u64, d: u32) -> u64
     requires { m < 2 ^ 32 }
     ensures { ShiftedDown m d result }
 {
-    if d < 32 { m >> d } else { 0 }
+    m.checked_shr(d).unwrap_or(0)
 }
 
 // m / 2^d, rounded upward, for every d.
@@ -110,13 +116,7 @@ fn shr_up(m: u64, d: u32) -> u64
     requires { (0 < m) × (m < 2 ^ 32) }
     ensures { ShiftedUp m d result }
 {
-    let n = m - 1;
-    if d < 32 {
-        let q = n >> d;
-        q + 1
-    } else {
-        1
-    }
+    shr_down(m - 1, d) + 1
 }
 
 // The sum; the first has the greater exponent.
@@ -125,13 +125,11 @@ fn add_aligned(a: Span, b: Span) -> Span
     ensures { Sum a b result }
 {
     let d = a.e - b.e;
-    let t = shr_down(b.lo, d);
-    let u = shr_up(b.hi, d);
-    let l = a.lo + t;
-    let h = a.hi + u;
-    let e = a.e;
-    let s = (h >> 31) as u32;
-    cut(l, h, e, s)
+    let down = shr_down(b.lo, d);
+    let up = shr_up(b.hi, d);
+    let hi = a.hi + up;
+    let s = (hi >> 31) as u32;
+    cut(a.lo + down, hi, a.e, s)
 }
 
 // The sum.
@@ -151,8 +149,7 @@ pub fn floor_int(a: Span) -> u64
     requires { (Normal a) × (a.e ≤ 1024) }
     ensures { Floor a result }
 {
-    let d = 1024 - a.e;
-    shr_down(a.lo, d)
+    shr_down(a.lo, 1024 - a.e)
 }
 
 // The least whole number from the upper end up.
@@ -160,8 +157,7 @@ pub fn ceil_int(a: Span) -> u64
     requires { (Normal a) × (a.e ≤ 1024) }
     ensures { Ceiling a result }
 {
-    let d = 1024 - a.e;
-    shr_up(a.hi, d)
+    shr_up(a.hi, 1024 - a.e)
 }
 
 // The difference, of a number and one that is at most three quarters of it.
@@ -170,29 +166,19 @@ pub fn sub(a: Span, b: Span) -> Span
     ensures { Difference a b result }
 {
     let d = a.e - b.e;
-    let t = shr_down(b.lo, d);
-    let u = shr_up(b.hi, d);
-    let l = a.lo - u;
-    let h = a.hi - t;
-    let e = a.e;
-    norm(l, h, e)
-}
-
-// The smaller of two words.
-fn least(a: u64, b: u64) -> u64
-    ensures { result ≡ a - (a - b) }
-{
-    if a < b { a } else { b }
+    let down = shr_down(b.lo, d);
+    let up = shr_up(b.hi, d);
+    norm(a.lo - up, a.hi - down, a.e)
 }
 
 // 2^d, or 4 where that is more: enough to compare mantissas of 31 bits.
 fn ratio(d: u32) -> u64
     ensures { Ratio d result }
 {
-    if d == 0 {
-        1
-    } else {
-        if d == 1 { 2 } else { 4 }
+    match d {
+        0 => 1,
+        1 => 2,
+        _ => 4,
     }
 }
 
@@ -201,14 +187,12 @@ fn lesser_aligned(a: Span, b: Span) -> Span
     requires { Compared a b }
     ensures { Smaller a b result }
 {
-    let d = a.e - b.e;
-    let k = ratio(d);
-    let x = a.lo * k;
-    let y = a.hi * k;
-    let l = least(x, b.lo);
-    let h = least(y, b.hi);
-    let e = b.e;
-    Span { lo: l, hi: h, e: e }
+    let k = ratio(a.e - b.e);
+    Span {
+        lo: b.lo.min(a.lo * k),
+        hi: b.hi.min(a.hi * k),
+        e: b.e,
+    }
 }
 
 // The smaller of two.
@@ -228,9 +212,5 @@ pub fn is_below(a: Span, b: Span) -> bool
     requires { (Normal a) × (Normal b) }
     ensures { result ≡ below a b }
 {
-    if b.e < a.e {
-        return false;
-    }
-    let d = b.e - a.e;
-    shr_down(a.hi, d) < b.lo
+    a.e <= b.e && shr_down(a.hi, b.e - a.e) < b.lo
 }

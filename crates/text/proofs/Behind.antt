@@ -3,11 +3,11 @@ use Prim.Native.Nat.{ℕ, ◌+◌, ◌-◌, ◌≤◌, ◌<◌}
 use mathlib.Core.Path.{◌≡◌, refl, ◌∙◌}
 use mathlib.Core.List.{List, [], ◌∷◌, ◌++◌}
 use native.Mathlib.Omega.{arith}
-use lib.ListN.{length, set, length-set}
+use lib.ListN.{length, set}
 use borrow.Rule.Slice.PartMut.{mid_of, put_mid}
 use Rattle.text.specs.Writers.{over, Puts}
 use Rattle.text.specs.laws.Writers.{over_store, over_part}
-use Rattle.text.specs.laws.Tails.{part_to_end, put_to_end, room_from}
+use Rattle.text.specs.laws.Tails.{part_to_end, put_to_end}
 
 pub behind
     : (text more before whole part : List ℕ) (at : ℕ) →
@@ -17,9 +17,6 @@ pub behind
     put_mid at (length whole - at) whole part ≡ over (text ++ more) before
 behind text more before whole part at e size w =
     put_to_end at whole part ∙ rw (w, part_to_end at whole, e, size) (over_part text more before)
-
-pub room_behind : (tag : ℕ) (before : List ℕ) (n : ℕ) → n + 1 ≤ length before → n ≤ length (mid_of 1 (length (set before 0 tag) - 1) (set before 0 tag))
-room_behind tag before n h = room_from 1 (set before 0 tag) n (omega (arith, length-set before 0 tag))
 
 -- a byte, and a text behind it
 pub tagged

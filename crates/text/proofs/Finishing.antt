@@ -37,7 +37,7 @@ last_is (x ∷ p) h = refl
 -- what is held came from somewhere
 some_before : {s : Stream} {lines : ℕ} (p : List ℕ) → Stands s lines p → 0 < s.held → 0 < length p
 some_before {s} [] st h =
-    omega (arith, ap length st.held, length-take-le s.held s.line (omega (arith, st.sound.within, st.sound.size)))
+    omega (arith, ap length st.held, length-take-le s.held s.line (omega (arith, s.within, s.size)))
 some_before (x ∷ p) st h = omega arith
 
 pub finished_line
@@ -48,7 +48,7 @@ pub finished_line
     Ends s [] before after r →
     Finishes s before r after
 finished_line {s} ready some same w =
-    let itself = w.printed (take s.held s.line) (stands_itself s ready.sound).held in
+    let itself = w.printed (take s.held s.line) (stands_itself s).held in
     record {
       written = omega (arith, itself.puts.short, ready.room);
       same = same;

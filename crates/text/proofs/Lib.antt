@@ -1,5 +1,4 @@
-mod Decimals
-mod Scans
+mod LineEnds
 mod Holds
 mod Behind
 mod Pieces

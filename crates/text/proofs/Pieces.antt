@@ -1,4 +1,5 @@
 -- The pieces of a record, written one behind the other. Assumes nothing.
+use Rattle.std.specs.Prelude.{Err, Ok}
 use Prim.Native.Nat.{ℕ, ◌+◌, ◌-◌, ◌≤◌}
 use mathlib.Core.Path.{◌≡◌, ap, ◌∙◌}
 use mathlib.Core.List.{List, [], ◌∷◌, ◌++◌}
@@ -6,8 +7,7 @@ use native.Mathlib.Omega.{arith}
 use lib.ListN.{length, set, length-append}
 use lib.Seq.{append_snoc, take_all}
 use borrow.Rule.Slice.PartMut.{mid_of, put_mid}
-use Rattle.frame.specs.declared.Verdict.{Verdict}
-use Rattle.frame.specs.declared.Verdict.TheVariants.{Accepted, Refused}
+use Rattle.frame.specs.Verdict.{Verdict}
 use Rattle.frame.specs.Verdicts.{line_verdict}
 use Rattle.answer.specs.Answer.{Answered, FromLine}
 use Rattle.text.specs.Lines.{lf}
@@ -20,10 +20,10 @@ use Rattle.text.proofs.Behind.{behind}
 -- an area of 77 bytes is the answer frame
 answers : (v : Verdict) (before after : List ℕ) → length before ≡ 77 → Answered v before after → Answers v after
 unfolding Answers
-answers (Accepted c) before after size a =
+answers (Ok c) before after size a =
     let most : length after ≤ 77 = omega (arith, a.same) in
     rw (take_all 77 after most) at a.answer
-answers (Refused r) before after size a = tt
+answers (Err r) before after size a = tt
 
 -- a number, a space, what the verdict says, LF
 pub printed

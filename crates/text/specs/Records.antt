@@ -1,7 +1,6 @@
 -- The records of an output (document 01, "The program `reckon`"). ASCII throughout.
-use Rattle.std.specs.Prelude.{ℕ, suc, ◌≡◌, List, [], ◌∷◌, ◌++◌}
-use Rattle.frame.specs.declared.Verdict.{Verdict}
-use Rattle.frame.specs.declared.Verdict.TheVariants.{Accepted, Refused}
+use Rattle.std.specs.Prelude.{ℕ, suc, ◌≡◌, List, [], ◌∷◌, ◌++◌, Err, Ok}
+use Rattle.frame.specs.Verdict.{Verdict}
 use Rattle.frame.specs.Refusals.{number}
 use Rattle.frame.specs.Verdicts.{line_verdict}
 use Rattle.hexadecimals.specs.Written.{digits_of}
@@ -11,13 +10,13 @@ use Rattle.text.specs.Digits.{decimal}
 
 -- R and the refusal's number, or A and the answer frame's digits
 unfoldable pub said : (v : Verdict) (frame : List ℕ) → List ℕ
-said (Refused r) frame = 82 ∷ decimal (number r)
-said (Accepted c) frame = 65 ∷ digits_of frame
+said (Err r) frame = 82 ∷ decimal (number r)
+said (Ok c) frame = 65 ∷ digits_of frame
 
 -- of an accepted case the frame is an answer, of 77 bytes and so 154 digits
 unfoldable pub Answers : (v : Verdict) (frame : List ℕ) → Type 0
-Answers (Refused r) frame = Unit {0}
-Answers (Accepted c) frame = Answer c frame
+Answers (Err r) frame = Unit {0}
+Answers (Ok c) frame = Answer c frame
 
 -- the bytes printed for line k of an input: its number, a space, what its verdict says, LF. Open are the ends of an answer's intervals
 pub record Record (k : ℕ) (line text : List ℕ) : Type 0 where

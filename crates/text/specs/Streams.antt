@@ -4,20 +4,13 @@ use Rattle.text.specs.declared.Stream.{Stream}
 use Rattle.text.specs.Lines.{ended, left, last_line}
 use Rattle.text.specs.Records.{Text}
 
--- at most 49 characters are held, in an array of 49
-pub record Sound (s : Stream) : Type 0 where
-  pub size : length s.line ≡ 49
-  pub within : s.held ≤ 49
-
 -- so many lines have ended, and since then came the characters p
 pub record Stands (s : Stream) (lines : ℕ) (p : List ℕ) : Type 0 where
-  pub sound : Sound s
   pub counted : s.lines ≡ lines
   pub held : take s.held s.line ≡ take 49 p
 
 -- t is s after these bytes of the input
 pub record Reached (s : Stream) (bytes : List ℕ) (t : Stream) : Type 0 where
-  pub sound : Sound t
   pub lines : t.lines ≤ s.lines + length bytes
   pub stands
       : (lines : ℕ) (p : List ℕ) → Stands s lines p → Stands t (lines + length (ended p bytes)) (left p bytes)

@@ -4,19 +4,24 @@ ghost use Rattle.text.specs.Writers.{Printed, Space, Puts};
 ghost use Rattle.text.specs.Records.{longest, said};
 
 use crate::digits::{put_decimal, put_hexadecimal};
-use frame::Verdict;
+use frame::Refusal;
+use guidance::Case;
+use refusals::Reason;
+
+// Room for a record: none is longer.
+pub const LONGEST: usize = 192;
 
 // R and the refusal's number, or A and the answer frame's digits.
-fn put_said(v: Verdict, answer: &[u8], out: &mut [u8]) -> usize
+fn put_said(v: Result<Case, Refusal>, answer: &[u8], out: &mut [u8]) -> usize
     requires { Space answer.now out.old }
     ensures { Puts (said v answer.now) 155 out.old out.new result }
 {
     match v {
-        Verdict::Refused(r) => {
+        Err(r) => {
             out[0] = b'R';
-            1 + put_decimal(frame::number_of(r), &mut out[1..])
+            1 + put_decimal(r.number(), &mut out[1..])
         }
-        Verdict::Accepted(_) => {
+        Ok(_) => {
             out[0] = b'A';
             1 + put_hexadecimal(answer, &mut out[1..])
         }

@@ -1,3 +1,4 @@
+pub mod Verdict
 pub mod Refusals
 pub mod Tests
 pub mod Entry

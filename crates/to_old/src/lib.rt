@@ -4,20 +4,19 @@
 ghost use Rattle.std.specs.Prelude.{◌≡◌, ◌≤◌, length};
 ghost use Rattle.std.proofs.lemmas.List.Edits.{sets};
 ghost use Rattle.guidance.specs.Cases.{Fields};
-ghost use Rattle.refusals.specs.Faults.{filled};
-ghost use Rattle.to_old.specs.Refusals.{number, code, word};
+ghost use Rattle.to_old.specs.declared.Refusal.TheVariants.{Faulty};
+ghost use Rattle.to_old.specs.Refusals.{number, word, told};
 ghost use Rattle.to_old.specs.Entry.{old_line, ToLine};
-ghost use Rattle.to_old.specs.Steps.{placed, judged, Returnable, Returned};
+ghost use Rattle.to_old.specs.Steps.{placed};
 
 use guidance::Case;
-use limits::Checked;
-use refusals::Fault;
+use refusals::{Fault, Reason};
 
 // The characters of an old line.
 const LINE: usize = 116;
 
 // Why a frame has no old line, in the order of the tests: a fault of its own, then 19 and 8.
-#[derive(Clone, Copy)]
+#[derive(Clone, Copy, Debug, PartialEq, Eq)]
 pub enum Refusal {
     Faulty(Fault),
     // the air pressure is not the standard one
@@ -25,64 +24,50 @@ pub enum Refusal {
     Space,
 }
 
-// What becomes of a frame that goes back.
-#[derive(Clone, Copy)]
-pub enum Verdict {
-    Accepted(Case),
-    Refused(Refusal),
-}
+impl From<Fault> for Refusal {
+    ghost from_gives = { λ f r. r ≡ Faulty f };
 
-pub fn number_of(r: Refusal) -> u64
-    ensures { result ≡ number r }
-{
-    match r {
-        Refusal::Faulty(f) => refusals::number_of(f),
-        Refusal::Air => 19,
-        Refusal::Space => 8,
+    fn from(f: Fault) -> Refusal {
+        Refusal::Faulty(f)
     }
 }
 
-// The refusal's word, filled with zeros to 12 bytes.
-pub fn word_of(r: Refusal) -> [u8; 12]
-    ensures { result ≡ filled (word r) }
-{
-    match r {
-        Refusal::Faulty(f) => refusals::word_of(f),
-        Refusal::Air => *b"air\0\0\0\0\0\0\0\0\0",
-        Refusal::Space => *b"space\0\0\0\0\0\0\0",
-    }
-}
+impl Reason for Refusal {
+    ghost number_told = { number };
 
-// 0 for an accepted frame, else the number of its refusal.
-pub fn code_of(v: Verdict) -> u64
-    ensures { result ≡ code v }
-{
-    match v {
-        Verdict::Accepted(_) => 0,
-        Verdict::Refused(r) => number_of(r),
+    ghost word_told = { word };
+
+    ghost tells = { told };
+
+    fn number(self) -> u64 {
+        match self {
+            Refusal::Faulty(f) => f.number(),
+            Refusal::Air => 19,
+            Refusal::Space => 8,
+        }
+    }
+
+    fn word(self) -> [u8; 12] {
+        match self {
+            Refusal::Faulty(f) => f.word(),
+            Refusal::Air => *b"air\0\0\0\0\0\0\0\0\0",
+            Refusal::Space => *b"space\0\0\0\0\0\0\0",
+        }
     }
 }
 
 // Tests 19 and 8.
-fn place(c: Case, room: usize) -> Verdict
+#[tactic(auto, unfolding(crate::specs::Tests::last_tests, refusals::specs::Order::first_of))]
+fn place(c: Case, room: usize) -> Result<Case, Refusal>
     ensures { result ≡ placed c room }
 {
     if c.air != guidance::STANDARD {
-        return Verdict::Refused(Refusal::Air);
+        return Err(Refusal::Air);
     }
     if room < LINE {
-        return Verdict::Refused(Refusal::Space);
+        return Err(Refusal::Space);
     }
-    Verdict::Accepted(c)
-}
-
-fn judge(s: Checked, room: usize) -> Verdict
-    ensures { result ≡ judged s room }
-{
-    match s {
-        Checked::Sound(c) => place(c, room),
-        Checked::Unsound(f) => Verdict::Refused(Refusal::Faulty(f)),
-    }
+    Ok(c)
 }
 
 // The old line of a case, into the area's first 116 bytes.
@@ -96,25 +81,12 @@ fn write_line(area: &mut [u8], c: Case)
     hexadecimals::write(&s, area);
 }
 
-// What the verdict asks of the area.
-fn give_back(v: Verdict, area: &mut [u8]) -> Verdict
-    requires { Returnable v area.old }
-    ensures { Returned v area.old result area.new }
-{
-    match v {
-        Verdict::Accepted(c) => {
-            write_line(area, c);
-            Verdict::Accepted(c)
-        }
-        Verdict::Refused(r) => Verdict::Refused(r),
-    }
-}
-
 // The way back: the old line of a frame, into the area's first 116 bytes.
-pub fn to_line(frame: &[u8], area: &mut [u8]) -> Verdict
+pub fn to_line(frame: &[u8], area: &mut [u8]) -> Result<Case, Refusal>
     ensures { ToLine frame.now area.old result area.new }
 {
-    let s = frame::check_frame(frame);
-    let v = judge(s, area.len());
-    give_back(v, area)
+    let sound = frame::check_frame(frame)?;
+    let c = place(sound, area.len())?;
+    write_line(area, c);
+    Ok(c)
 }

@@ -1,6 +1,5 @@
 -- How totals are kept up as one case comes or goes: laws/Changes has it that right ones stay right.
-use Rattle.std.specs.Prelude.{ℕ, ◌+◌, ◌-◌, ◌||◌, cond, eqb, ltb}
-use Rattle.std.proofs.Math.Option.{Option, none, some}
+use Rattle.std.specs.Prelude.{ℕ, ◌+◌, ◌-◌, ◌||◌, cond, eqb, ltb, Option, None, Some}
 use Rattle.places.specs.declared.Held.{Held}
 use Rattle.places.specs.declared.Places.{Places}
 use Rattle.places.specs.Places.{stands_for}
@@ -16,8 +15,8 @@ including t k u =
 
 -- with what the next place holds
 abbrev pub including_any : Totals → (place : ℕ) → Option Held → Totals
-including_any t k none = t
-including_any t k (some h) = including t k h.upper
+including_any t k None = t
+including_any t k (Some h) = including t k h.upper
 
 -- without a case that is not the one shown; 0 - 1 is 0
 abbrev pub excluding : Totals → Totals

@@ -3,31 +3,32 @@
 #![tactic(auto)]
 
 ghost use Rattle.std.specs.Prelude.{◌<◌, ◌≡◌, []};
-ghost use Rattle.places.specs.Places.{holds, stands_for};
+ghost use Rattle.places.specs.Places.{stands_for};
 ghost use Rattle.totals.specs.Totals.{totals_of};
-ghost use Rattle.totals.specs.Keeping.{including, including_any, after_adding, after_withdrawing};
+ghost use Rattle.totals.specs.Keeping.{including, after_adding, after_withdrawing};
 
-use places::{Content, Held, Place, Places};
+use places::{Held, Places};
 
 #[derive(Clone, Copy)]
 pub struct Totals {
     pub cases: usize,
     // Pa
     pub greatest: u64,
-    // the first that has the greatest; 0 where there is no case
+    // the first that has the greatest; 0 where there is no case, as `yakepuhi_sheet_totals` tells it
     pub place: usize,
 }
 
 // The totals worked from the places.
-pub fn afresh(now: Places) -> Totals
-    ensures { result ≡ totals_of (stands_for now) }
+pub fn afresh(now: &Places) -> Totals
+    ensures { result ≡ totals_of (stands_for now.now) }
 {
-    let mut t = Totals::none();
-    for i in 0..64 {
-        let p = now.all[i];
-        t = t.with_place(i + 1, p);
+    let mut totals = Totals::none();
+    for (i, place) in now.all.iter().enumerate() {
+        if let Some(held) = place {
+            totals = totals.with_end(i + 1, held.upper);
+        }
     }
-    t
+    totals
 }
 
 impl Totals {
@@ -48,42 +49,20 @@ impl Totals {
         ensures { result ≡ including self place upper }
     {
         let cases = self.cases + 1;
-        if self.cases == 0 {
-            return Totals {
+        if self.cases == 0 || self.greatest < upper {
+            Totals {
                 cases,
                 greatest: upper,
                 place,
-            };
-        }
-        if self.greatest < upper {
-            return Totals {
-                cases,
-                greatest: upper,
-                place,
-            };
-        }
-        Totals {
-            cases,
-            greatest: self.greatest,
-            place: self.place,
-        }
-    }
-
-    // With what the next place holds.
-    fn with_place(self, place: usize, p: Place) -> Self
-        requires { self.cases < 64 }
-        ensures { result ≡ including_any self place (holds p) }
-    {
-        let content = p.content;
-        match content {
-            Content::Hole => self,
-            Content::Taken(h) => self.with_end(place, h.upper),
+            }
+        } else {
+            Totals { cases, ..self }
         }
     }
 
     // A case was added at a place behind the others.
-    pub fn after_adding(self, now: Places, place: usize, h: Held) -> Self
-        ensures { result ≡ after_adding self now place h }
+    pub fn after_adding(self, now: &Places, place: usize, h: Held) -> Self
+        ensures { result ≡ after_adding self now.now place h }
     {
         if self.cases < 64 {
             self.with_end(place, h.upper)
@@ -93,19 +72,15 @@ impl Totals {
     }
 
     // The case at a place was withdrawn: the greatest stays unless it was the one shown.
-    pub fn after_withdrawing(self, now: Places, place: usize) -> Self
-        ensures { result ≡ after_withdrawing self now place }
+    pub fn after_withdrawing(self, now: &Places, place: usize) -> Self
+        ensures { result ≡ after_withdrawing self now.now place }
     {
         if self.place == place {
             return afresh(now);
         }
-        if self.cases == 0 {
-            return self;
-        }
         Totals {
-            cases: self.cases - 1,
-            greatest: self.greatest,
-            place: self.place,
+            cases: self.cases.saturating_sub(1),
+            ..self
         }
     }
 }

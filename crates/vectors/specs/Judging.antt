@@ -1,81 +1,84 @@
 -- When the answer to a vector of the separate calculation has a fault (docs/known_cases.md).
-use Rattle.std.specs.Prelude.{ℕ, zero, suc, ◌+◌, ◌-◌, ◌≤◌, ◌≡◌, Bool, true, not, ◌&&◌, ◌||◌, cond, List, eqb, length, get_or, replicate}
-use Rattle.scan.specs.Words.{word_at}
+use Rattle.std.specs.Prelude.{ℕ, zero, suc, ◌+◌, min, Bool, true, false, not, ◌&&◌, if◌then◌else◌, List, Option, Some, None, ◌==◌, nat_eq, take, drop, slice_index}
+use Rattle.std.specs.List.{list_all}
+use Rattle.std.specs.Cmp.Lexicographic.{pointwise}
+use Rattle.scan.specs.Words.{lead_of, value_of, after_word}
 use Rattle.vectors.specs.declared.judging.Vector.{Vector}
+use Rattle.vectors.specs.declared.judging.Expected.{Expected}
+use Rattle.vectors.specs.declared.judging.Expected.TheVariants.{Accepted, Refused}
+use Rattle.vectors.specs.declared.judging.Answer.{Answer}
 use Rattle.vectors.specs.declared.judging.Finding.{Finding}
+use Rattle.vectors.specs.declared.table.Entry.{Entry}
 use Rattle.vectors.specs.Figures.{right}
-use Rattle.vectors.specs.Bounds.{second}
 
--- an area of 80 bytes before its answer
-abbrev pub filled : List ℕ
-filled = replicate 80 170
+-- what is left behind n words
+unfoldable pub after_words : (n : ℕ) (text : List ℕ) → List ℕ
+after_words zero text = text
+after_words (suc n) text = after_words n (after_word text)
 
--- what stands for the verdict's number on a frame, where the line spells none
-abbrev pub no_frame : ℕ
-no_frame = 9
+-- A with the range, or R with the refusal
+abbrev pub expected_of : List ℕ → Expected
+expected_of text = if lead_of text == 65 then Accepted (value_of text) else Refused (value_of text)
 
--- the place after n words
-unfoldable pub after_words : (n : ℕ) (text : List ℕ) (at : ℕ) → ℕ
-after_words zero text at = at
-after_words (suc n) text at = after_words n text (word_at text at).next
+-- a vector: the room, at most 80; what is expected; the seven values of an accepted case; the line
+abbrev pub vector_of : List ℕ → Vector
+vector_of text = record { room = min (value_of text) 80; expected = expected_of (after_word text) }
 
--- a vector: the room, at most 80; A with the range or R with the refusal; the seven values of an accepted case; the line
-unfoldable pub vector_of : List ℕ → Vector
-vector_of text =
-    record {
-      room = 80 - (80 - (word_at text 0).value);
-      accepted = eqb (second text).lead 65;
-      number = (second text).value;
-      values = (second text).next;
-      line = cond (eqb (second text).lead 65) (after_words 7 text (second text).next) (second text).next;
-    }
+abbrev pub values_of : List ℕ → List ℕ
+values_of text = after_word (after_word text)
 
--- the vector of a text, with its places within
-pub record Read (text : List ℕ) (v : Vector) : Type 0 where
-  pub vector : v ≡ vector_of text
-  pub small : v.room ≤ 80
-  pub values : v.values ≤ length text
-  pub line : v.line ≤ length text
+abbrev pub line_of : List ℕ → List ℕ
+line_of text = if lead_of (after_word text) == 65 then after_words 7 (values_of text) else values_of text
 
--- two areas have the same bytes, `left` of them from a place on
-unfoldable pub same_from : (left at : ℕ) (a b : List ℕ) → Bool
-same_from zero at a b = true
-same_from (suc left) at a b = eqb (get_or a at 0) (get_or b at 0) && same_from left (at + 1) a b
+-- bytes as they were before an answer
+unfoldable pub untouched : List ℕ → Bool
+untouched bytes = list_all (λ b. b == 170) bytes
 
--- the figures from the i-th on are right by the `left` values that start at a place
-unfoldable pub figures_right : (left i : ℕ) (text : List ℕ) (at : ℕ) (area table : List ℕ) → Bool
-figures_right zero i text at area table = true
-figures_right (suc left) i text at area table =
-    right area i (word_at text at).lead (word_at text at).value table && figures_right left (i + 1) text (word_at text at).next area table
+-- the figures from the i-th on are right by the `left` values that a text begins with
+unfoldable pub figures_right : (left i : ℕ) (text area : List ℕ) (table : List Entry) → Bool
+figures_right zero i text area table = true
+figures_right (suc left) i text area table =
+    right area i (lead_of text) (value_of text) table && figures_right left (i + 1) (after_word text) area table
 
--- a case that is to be accepted, its values from a place on: it is, in its range, with its seven figures, and the bytes past the 77 are as they were
-unfoldable pub accepted_right : (text : List ℕ) (from range given : ℕ) (area table : List ℕ) → Bool
-accepted_right text from range given area table =
-    eqb given 0 && eqb (get_or area 0 0) range && same_from 3 77 area filled && figures_right 7 0 text from area table
+-- a case is accepted, in its range
+unfoldable pub placed : (range : ℕ) (answer : Answer) → Bool
+placed range answer = answer.verdict == 0 && slice_index answer.area 0 == range
+
+-- an area has the seven figures, and the bytes past the 77 are as they were
+abbrev pub filled_right : (values area : List ℕ) (table : List Entry) → Bool
+filled_right values area table = untouched (take 3 (drop 77 area)) && figures_right 7 0 values area table
+
+-- a case that is to be accepted: it is, in its range, with its seven figures, and the bytes past the 77 are as they were
+abbrev pub accepted_right : (range : ℕ) (values : List ℕ) (answer : Answer) (table : List Entry) → Bool
+accepted_right range values answer table = placed range answer && filled_right values answer.area table
 
 -- one that is to be refused: it is, by the number, and all bytes are as they were
-unfoldable pub refused_right : (number given : ℕ) (area : List ℕ) → Bool
-refused_right number given area = eqb given number && same_from 80 0 area filled
+abbrev pub refused_right : (number : ℕ) (answer : Answer) → Bool
+refused_right number answer = answer.verdict == number && untouched answer.area
 
--- the answer to a vector's line: its verdict's number and its area
-unfoldable pub answer_right : (text : List ℕ) (v : Vector) (given : ℕ) (area table : List ℕ) → Bool
-answer_right text v given area table =
-    cond v.accepted (accepted_right text v.values v.number given area table) (refused_right v.number given area)
+-- the answer to a vector's line
+abbrev pub answer_right : (expected : Expected) (values : List ℕ) (answer : Answer) (table : List Entry) → Bool
+answer_right (Accepted range) values answer table = accepted_right range values answer table
+answer_right (Refused number) values answer table = refused_right number answer
 
 -- the frame that the line spells has the line's verdict and bytes
-unfoldable pub alike : (given : ℕ) (area : List ℕ) (framed : ℕ) (other : List ℕ) → Bool
-alike given area framed other = eqb given framed && same_from 80 0 area other
+abbrev pub alike : (frame line : Answer) → Bool
+alike frame line = frame.verdict == line.verdict && pointwise nat_eq frame.area line.area
 
--- what is found: a fault is a wrong answer to the line, or a frame that is answered otherwise
-unfoldable pub found : (accepted right unspelled same : Bool) → Finding
-found accepted right unspelled same =
-    record { accepted = accepted; alike = not unspelled && same; faulty = not (right && (unspelled || same)) }
+abbrev pub is_accepted : Expected → Bool
+is_accepted (Accepted range) = true
+is_accepted (Refused number) = false
+
+-- what is found, by what is expected and whether the answer to the line is right: a fault is a wrong answer to the line, or a frame that is answered otherwise
+abbrev pub found : (accepted right : Bool) (line : Answer) (frame : Option Answer) → Finding
+found accepted right line None = record { accepted = accepted; alike = false; faulty = not right }
+found accepted right line (Some frame) = record { accepted = accepted; alike = alike frame line; faulty = not (right && alike frame line) }
 
 -- what is found of a vector, by the answers to its line and to the frame that it spells
-unfoldable pub finding_of : (text : List ℕ) (given : ℕ) (area : List ℕ) (framed : ℕ) (other table : List ℕ) → Finding
-finding_of text given area framed other table =
+abbrev pub finding_of : (text : List ℕ) (line : Answer) (frame : Option Answer) (table : List Entry) → Finding
+finding_of text line frame table =
     found
-    (vector_of text).accepted
-    (answer_right text (vector_of text) given area table)
-    (eqb framed no_frame)
-    (alike given area framed other)
+    (is_accepted (vector_of text).expected)
+    (answer_right (vector_of text).expected (values_of text) line table)
+    line
+    frame

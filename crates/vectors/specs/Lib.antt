@@ -1,4 +1,5 @@
 -- What the test program's answers are judged by.
+pub mod Table
 pub mod Figures
-pub mod Judging
 pub mod Bounds
+pub mod Judging

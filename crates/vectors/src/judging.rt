@@ -1,24 +1,33 @@
 // A vector of the separate calculation, and what its line's and its frame's answer show.
-ghost use Rattle.std.specs.Prelude.{◌≡◌, ◌||◌, cond, ◌-◌, ◌≤◌, length};
-ghost use Rattle.vectors.specs.Judging.{after_words, vector_of, same_from, figures_right, accepted_right, refused_right, answer_right, alike, found, finding_of, Read};
+ghost use Rattle.std.specs.Prelude.{◌≡◌, ◌≤◌, option_copied};
+ghost use Rattle.vectors.specs.Judging.{after_words, vector_of, values_of, line_of, untouched, figures_right, placed, filled_right, answer_right, finding_of};
 
 use crate::figures;
-use crate::figures::both;
+use crate::table::Entry;
+use scan::Words;
 
 // The byte that fills an area before its answer.
 pub const FILL: u8 = 170;
 
-// The number that stands for the verdict on a frame where the line spells none.
-pub const NO_FRAME: u64 = 9;
+// What is expected of a line's answer: its range, or the refusal's number. No Result: a refusal that is expected is no failure.
+#[derive(Clone, Copy)]
+pub enum Expected {
+    Accepted { range: u64 },
+    Refused { number: u64 },
+}
 
-// A vector: the bytes lent for the answer, whether the case is to be accepted, its range or its refusal, where its values start and where its line does.
+// The head of a vector: the bytes lent for the answer, and what is expected of it.
 #[derive(Clone, Copy)]
 pub struct Vector {
     pub room: usize,
-    pub accepted: bool,
-    pub number: u64,
-    pub values: usize,
-    pub line: usize,
+    pub expected: Expected,
+}
+
+// An answer: its verdict's number, as the data have it, 0 where the case is accepted; and the area that was lent for it.
+#[derive(Clone, Copy, PartialEq, Eq)]
+pub struct Answer {
+    pub verdict: u64,
+    pub area: [u8; 80],
 }
 
 // What a vector's answers show: whether the case is to be accepted, whether its frame was answered as its line, and whether there is a fault.
@@ -29,162 +38,109 @@ pub struct Finding {
     pub faulty: bool,
 }
 
-fn either(a: bool, b: bool) -> bool
-    ensures { result ≡ (a || b) }
+// Past the seven values of an accepted case.
+fn skip_values(words: &mut Words)
+    ensures { words.new.rest.now ≡ after_words 7 words.old.rest.now }
 {
-    if a { true } else { b }
-}
-
-// The place after the seven values that start at `from`.
-fn after_values(text: &[u8], from: usize) -> usize
-    requires { from ≤ length text.now }
-    ensures { (result ≡ after_words 7 text.now from) × (result ≤ length text.now) }
-{
-    let mut at = from;
-    let mut i: usize = 0;
-    while i < 7 {
-        let w = scan::next_word(text, at);
-        at = w.next;
-        i += 1;
+    // a count alone: each call moves the words on
+    for i in 0..7usize {
+        words.next_word();
     }
-    at
 }
 
-fn room_of(value: u64) -> usize
-    ensures { (result ≡ 80 - (80 - value)) × (result ≤ 80) }
+// The head of a vector, its room and A with the range or R with the refusal; what is left begins with the values.
+fn head_of(words: &mut Words) -> Vector
+    ensures head { result ≡ vector_of words.old.rest.now }
+    ensures small { result.room ≤ 80 }
+    ensures values { words.new.rest.now ≡ values_of words.old.rest.now }
 {
-    if value < 80 { value as usize } else { 80 }
-}
-
-fn line_at(text: &[u8], accepted: bool, from: usize) -> usize
-    requires { from ≤ length text.now }
-    ensures { (result ≡ cond accepted (after_words 7 text.now from) from) × (result ≤ length text.now) }
-{
-    if accepted {
-        after_values(text, from)
+    let room = words.next_word().value.min(80) as usize;
+    let verdict = words.next_word();
+    let expected = if verdict.lead == b'A' {
+        Expected::Accepted {
+            range: verdict.value,
+        }
     } else {
-        from
-    }
+        Expected::Refused {
+            number: verdict.value,
+        }
+    };
+    Vector { room, expected }
 }
 
-// A vector: the room, A with the range or R with the refusal, the values, the line.
-pub fn vector_of(text: &[u8]) -> Vector
-    ensures { Read text.now result }
+// A vector's head, and its line behind the values, if it has any.
+pub fn vector_of(text: &[u8]) -> (Vector, &[u8])
+    ensures head { result.0 ≡ vector_of text.now }
+    ensures small { result.0.room ≤ 80 }
+    ensures line { result.1.now ≡ line_of text.now }
 {
-    let first = scan::next_word(text, 0);
-    let verdict = scan::next_word(text, first.next);
-    let accepted = verdict.lead == b'A';
-    let values = verdict.next;
-    Vector {
-        room: room_of(first.value),
-        accepted,
-        number: verdict.value,
-        values,
-        line: line_at(text, accepted, values),
+    let mut words = Words { rest: text };
+    let vector = head_of(&mut words);
+    if let Expected::Accepted { .. } = vector.expected {
+        skip_values(&mut words);
     }
+    (vector, words.rest)
 }
 
-// Whether two areas have the same bytes from `from` on.
-fn is_same(a: &[u8; 80], b: &[u8; 80], from: usize) -> bool
-    requires { from ≤ 80 }
-    ensures { result ≡ same_from (80 - from) from a.now b.now }
+#[tactic(auto, unfolding(crate::specs::Judging::untouched))]
+fn is_untouched(bytes: &[u8]) -> bool
+    ensures { result ≡ untouched bytes.now }
 {
-    let mut at = from;
-    while at < 80 {
-        if a[at] != b[at] {
+    bytes.iter().all(|b| *b == FILL)
+}
+
+// Whether the seven figures are right by the values.
+fn are_right(values: &[u8], area: &[u8; 80], table: &[Entry; 108]) -> bool
+    ensures { result ≡ figures_right 7 0 values.now area.now table.now }
+{
+    let mut words = Words { rest: values };
+    // by number, which tells the figure's place in the area
+    for i in 0..7 {
+        let w = words.next_word();
+        if !figures::is_right(area, i, w, table) {
             return false;
         }
-        at += 1;
     }
     true
 }
 
-// Whether the seven figures are right by the seven values that start at `from`.
-fn are_right(text: &[u8], from: usize, area: &[u8; 80], table: &[u64; 216]) -> bool
-    requires { from ≤ length text.now }
-    ensures { result ≡ figures_right 7 0 text.now from area.now table.now }
+// Whether a case is accepted, in its range.
+#[tactic(auto, unfolding(crate::specs::Judging::placed))]
+fn is_placed(range: u64, answer: &Answer) -> bool
+    ensures { result ≡ placed range answer.now }
 {
-    let mut at = from;
-    let mut i = 0;
-    while i < 7 {
-        let w = scan::next_word(text, at);
-        if !figures::is_right(area, i, w.lead, w.value, table) {
-            return false;
+    answer.verdict == 0 && u64::from(answer.area[0]) == range
+}
+
+// Whether an answer frame has the seven figures, and the bytes past its 77 are as they were.
+fn is_filled(values: &[u8], area: &[u8; 80], table: &[Entry; 108]) -> bool
+    ensures { result ≡ filled_right values.now area.now table.now }
+{
+    is_untouched(&area[77..]) && are_right(values, area, table)
+}
+
+// Whether a line's answer is the one that is expected.
+fn is_right(expected: Expected, values: &[u8], answer: &Answer, table: &[Entry; 108]) -> bool
+    ensures { result ≡ answer_right expected values.now answer.now table.now }
+{
+    match expected {
+        Expected::Accepted { range } => {
+            is_placed(range, answer) && is_filled(values, &answer.area, table)
         }
-        at = w.next;
-        i += 1;
-    }
-    true
-}
-
-// A case that is to be accepted in a range, by the values that start at `from`.
-fn is_accepted(
-    text: &[u8],
-    from: usize,
-    range: u64,
-    given: u64,
-    area: &[u8; 80],
-    table: &[u64; 216],
-) -> bool
-    requires { from ≤ length text.now }
-    ensures { result ≡ accepted_right text.now from range given area.now table.now }
-{
-    let kept = is_same(area, &[FILL; 80], 77);
-    let figures = are_right(text, from, area, table);
-    let placed = both(given == 0, scan::wide(area[0]) == range);
-    both(both(placed, kept), figures)
-}
-
-// A case that is to be refused by a number.
-fn is_refused(number: u64, given: u64, area: &[u8; 80]) -> bool
-    ensures { result ≡ refused_right number given area.now }
-{
-    let kept = is_same(area, &[FILL; 80], 0);
-    both(given == number, kept)
-}
-
-fn is_right(text: &[u8], v: Vector, given: u64, area: &[u8; 80], table: &[u64; 216]) -> bool
-    requires { v.values ≤ length text.now }
-    ensures { result ≡ answer_right text.now v given area.now table.now }
-{
-    if v.accepted {
-        is_accepted(text, v.values, v.number, given, area, table)
-    } else {
-        is_refused(v.number, given, area)
+        Expected::Refused { number } => answer.verdict == number && is_untouched(&answer.area),
     }
 }
 
-fn is_alike(given: u64, area: &[u8; 80], framed: u64, other: &[u8; 80]) -> bool
-    ensures { result ≡ alike given area.now framed other.now }
+// What is found of a vector, by the answers to its line and to the frame that the line spells, if it spells one.
+pub fn judge(text: &[u8], line: &Answer, frame: Option<&Answer>, table: &[Entry; 108]) -> Finding
+    ensures { result ≡ finding_of text.now line.now (option_copied frame.entry) table.now }
 {
-    let same = is_same(area, other, 0);
-    both(given == framed, same)
-}
-
-// What is found, by the answer to the line and by whether the line spells no frame, or one that was answered alike.
-fn found_of(accepted: bool, right: bool, unspelled: bool, same: bool) -> Finding
-    ensures { result ≡ found accepted right unspelled same }
-{
+    let mut words = Words { rest: text };
+    let expected = head_of(&mut words).expected;
+    let right = is_right(expected, words.rest, line, table);
     Finding {
-        accepted,
-        alike: both(!unspelled, same),
-        faulty: !both(right, either(unspelled, same)),
+        accepted: matches!(expected, Expected::Accepted { .. }),
+        alike: frame.is_some_and(|f| *f == *line),
+        faulty: !(right && frame.is_none_or(|f| *f == *line)),
     }
-}
-
-// What is found of a vector, by the verdicts' numbers on its line and on its frame and the areas that they were given.
-pub fn judge(
-    text: &[u8],
-    given: u64,
-    area: &[u8; 80],
-    framed: u64,
-    other: &[u8; 80],
-    table: &[u64; 216],
-) -> Finding
-    ensures { result ≡ finding_of text.now given area.now framed other.now table.now }
-{
-    let v = vector_of(text);
-    let right = is_right(text, v, given, area, table);
-    let same = is_alike(given, area, framed, other);
-    found_of(v.accepted, right, framed == NO_FRAME, same)
 }

@@ -2,5 +2,6 @@
 #![tactic(auto)]
 
 pub mod bounds;
-mod figures;
+pub mod figures;
 pub mod judging;
+pub mod table;

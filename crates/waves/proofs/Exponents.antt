@@ -112,9 +112,6 @@ upper_least y n d z m h = dn_alone y.hi _ d (omega (arith, (⊑_trans h m.below)
 -- What the operations ask of ln R and its square
 
 module _ {l : Log} (x : Logged l) where
-  pub scales : (p : ℕ) → p < 2 ^ 20 → Scalable p l
-  scales p h = record { left = x.ordered; small = larger (omega arith) x.small; factor = h }
-
   pub squares : LogFactors l l
   squares =
       let small : Small l (2 ^ 33) = larger (omega arith) x.small in

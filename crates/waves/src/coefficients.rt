@@ -1,4 +1,4 @@
-// The coefficients of the wave formulas, rounded outward to 31 bits.
+// The coefficients of the wave formulas, rounded outward to 31 bits. Mantissas are written out: a constant's value calls no function.
 use fixed::Log;
 use span::Span;
 
@@ -60,13 +60,7 @@ pub const PUSH_THIRD: Span = Span {
     e: 985,
 };
 
-// Deflagration, impulse: 1 and 0.4 of 1 - 0.4gw (003).
-pub const ONE: Span = Span {
-    lo: 1073741824,
-    hi: 1073741824,
-    e: 994,
-};
-
+// Deflagration, impulse: 0.4 of 1 - 0.4gw (003).
 pub const FOUR_TENTHS: Span = Span {
     lo: 1717986918,
     hi: 1717986919,

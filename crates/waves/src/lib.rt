@@ -1,5 +1,6 @@
 // The wave formulas on intervals: reduced pressure and impulse of detonation and deflagration over the reduced distance R.
 // Each function follows its formula operation by operation.
+// A reduced distance is a plain span: how near it may come to 0 differs from formula to formula, so that no one type states it.
 #![tactic(auto)]
 
 ghost use Rattle.exact.specs.Fraction.{whole};
@@ -69,14 +70,13 @@ pub fn mach(v: Span) -> Span
     span::quo(v, coefficients::SOUND)
 }
 
-// g = (σ - 1)/σ of the state, 0 gas and 1 heterogeneous.
+// g = (σ - 1)/σ of the state, 0 gas and 1 heterogeneous: the number that a case holds, whatever it is.
 pub fn expansion(state: u64) -> Span
     ensures { Expansion state result }
 {
-    if state == 1 {
-        coefficients::AEROSOL_EXPANSION
-    } else {
-        coefficients::GAS_EXPANSION
+    match state {
+        1 => coefficients::AEROSOL_EXPANSION,
+        _ => coefficients::GAS_EXPANSION,
     }
 }
 
@@ -99,7 +99,7 @@ pub fn deflagration_impulse(w: Span, g: Span, r: Span) -> Span
     let product = span::mul(w, g);
     let part = span::mul(coefficients::FOUR_TENTHS, g);
     let lost = span::mul(part, w);
-    let left = span::sub(coefficients::ONE, lost);
+    let left = span::sub(Span::ONE, lost);
     let share = span::mul(product, left);
     let fall = falling_impulse(r);
     span::mul(share, fall)
@@ -118,25 +118,19 @@ pub fn gas_pressure(l: Log) -> Span
     requires { Near l }
     ensures { GasPressure l result }
 {
-    let first = fixed::ten_thousandths(l, 16600);
-    let square = fixed::product(l, l);
-    let second = fixed::ten_thousandths(square, 2600);
-    let start = fixed::sub(coefficients::PRESSURE_START, first);
-    let y = fixed::add(start, second);
-    enclosure::expo(y)
+    let first = fixed::scaled::<10_000>(l, 16_600);
+    let second = fixed::scaled::<10_000>(l * l, 2_600);
+    enclosure::expo(coefficients::PRESSURE_START - first + second)
 }
 
-// Gas detonation: e^(-3.4217 - 0.898 ln R - 0.0096 (ln R)²).
+// Gas detonation: e^(-3.4217 - 0.898 ln R - 0.0096 (ln R)²). The sign of the square, and what is asked of ln R, keep it apart from the pressure.
 pub fn gas_impulse(l: Log) -> Span
     requires { Logged l }
     ensures { GasImpulse l result }
 {
-    let first = fixed::ten_thousandths(l, 8980);
-    let square = fixed::product(l, l);
-    let second = fixed::ten_thousandths(square, 96);
-    let start = fixed::sub(coefficients::IMPULSE_START, first);
-    let y = fixed::sub(start, second);
-    enclosure::expo(y)
+    let first = fixed::scaled::<10_000>(l, 8_980);
+    let second = fixed::scaled::<10_000>(l * l, 96);
+    enclosure::expo(coefficients::IMPULSE_START - first - second)
 }
 
 // M^(1/6), M in kg from a mass in grams.
@@ -152,10 +146,9 @@ fn sixth_root(mass: u64) -> Span
 fn factor(range: u64) -> Span
     ensures { Factor range result }
 {
-    if range == 5 {
-        coefficients::FACTOR_43
-    } else {
-        coefficients::FACTOR_26
+    match range {
+        5 => coefficients::FACTOR_43,
+        _ => coefficients::FACTOR_26,
     }
 }
 
@@ -163,14 +156,10 @@ fn factor(range: u64) -> Span
 fn range_end(range: u64) -> Span
     ensures { Front (number (whole (range_end range))) result }
 {
-    if range == 2 {
-        coefficients::FRONT_500
-    } else {
-        if range == 3 {
-            coefficients::FRONT_300
-        } else {
-            coefficients::FRONT_200
-        }
+    match range {
+        2 => coefficients::FRONT_500,
+        3 => coefficients::FRONT_300,
+        _ => coefficients::FRONT_200,
     }
 }
 
@@ -179,14 +168,12 @@ fn slow_front(range: u64, mass: u64) -> Span
     requires { Mass mass }
     ensures { Front (slow_front range mass) result }
 {
-    let f = factor(range);
-    let root = sixth_root(mass);
-    let v = span::mul(f, root);
+    let v = span::mul(factor(range), sixth_root(mass));
     let end = range_end(4);
     span::lesser(v, end)
 }
 
-// The front speed V of ranges 2 to 6, in m/s.
+// The front speed V of ranges 2 to 6, in m/s, by the range and the grams that a case holds.
 pub fn front_speed(range: u64, mass: u64) -> Span
     requires { Mass mass }
     ensures { Front (front_speed_of range mass) result }

@@ -1,3 +1,4 @@
+pub mod Verdict
 pub mod Refusals
 pub mod Verdicts
 pub mod Writing

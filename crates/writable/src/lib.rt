@@ -2,93 +2,73 @@
 #![tactic(auto)]
 
 ghost use Rattle.std.specs.Prelude.{◌≡◌};
-ghost use Rattle.refusals.specs.Faults.{filled};
-ghost use Rattle.writable.specs.Refusals.{number, code, word};
+ghost use Rattle.writable.specs.declared.Refusal.TheVariants.{Faulty};
+ghost use Rattle.writable.specs.Refusals.{number, word, told};
 ghost use Rattle.fields.specs.Bytes.{frame_bytes};
 ghost use Rattle.writable.specs.Steps.{placed, needed_for, Written};
 
 use guidance::Case;
-use limits::Checked;
-use refusals::Fault;
+use refusals::{Fault, Reason};
 
-#[derive(Clone, Copy)]
+#[derive(Clone, Copy, Debug, PartialEq, Eq)]
 pub enum Refusal {
     Faulty(Fault),
     Space,
 }
 
-// What becomes of a case that is to be written.
-#[derive(Clone, Copy)]
-pub enum Verdict {
-    Accepted(Case),
-    Refused(Refusal),
-}
+impl From<Fault> for Refusal {
+    ghost from_gives = { λ f r. r ≡ Faulty f };
 
-pub fn number_of(r: Refusal) -> u64
-    ensures { result ≡ number r }
-{
-    match r {
-        Refusal::Faulty(f) => refusals::number_of(f),
-        Refusal::Space => 8,
+    fn from(f: Fault) -> Refusal {
+        Refusal::Faulty(f)
     }
 }
 
-// The refusal's word, filled with zeros to 12 bytes.
-pub fn word_of(r: Refusal) -> [u8; 12]
-    ensures { result ≡ filled (word r) }
-{
-    match r {
-        Refusal::Faulty(f) => refusals::word_of(f),
-        Refusal::Space => *b"space\0\0\0\0\0\0\0",
-    }
-}
+impl Reason for Refusal {
+    ghost number_told = { number };
 
-// 0 for an accepted case, else the number of its refusal.
-pub fn code_of(v: Verdict) -> u64
-    ensures { result ≡ code v }
-{
-    match v {
-        Verdict::Accepted(_) => 0,
-        Verdict::Refused(r) => number_of(r),
+    ghost word_told = { word };
+
+    ghost tells = { told };
+
+    fn number(self) -> u64 {
+        match self {
+            Refusal::Faulty(f) => f.number(),
+            Refusal::Space => 8,
+        }
+    }
+
+    fn word(self) -> [u8; 12] {
+        match self {
+            Refusal::Faulty(f) => f.word(),
+            Refusal::Space => *b"space\0\0\0\0\0\0\0",
+        }
     }
 }
 
 // What its own tests found stands, else test 8 decides, with `room` bytes for the `needed` ones.
-pub fn place(s: Checked, needed: usize, room: usize) -> Verdict
-    ensures { result ≡ placed s (λ (c : Case). needed) room }
+pub fn place(found: Result<Case, Fault>, needed: usize, room: usize) -> Result<Case, Refusal>
+    ensures { result ≡ placed found (λ (c : Case). needed) room }
 {
-    match s {
-        Checked::Sound(c) => {
-            if room < needed {
-                Verdict::Refused(Refusal::Space)
-            } else {
-                Verdict::Accepted(c)
-            }
-        }
-        Checked::Unsound(f) => Verdict::Refused(Refusal::Faulty(f)),
+    let c = found?;
+    if room < needed {
+        return Err(Refusal::Space);
     }
+    Ok(c)
 }
 
 // The bytes of the frame of a case that passed its own tests.
-fn frame_size(s: Checked) -> usize
-    ensures { result ≡ needed_for frame_bytes s }
+fn frame_size(found: Result<Case, Fault>) -> usize
+    ensures { result ≡ needed_for frame_bytes found }
 {
-    match s {
-        Checked::Sound(c) => fields::size_of(c),
-        Checked::Unsound(_) => 0,
-    }
+    found.map_or(0, fields::size_of)
 }
 
 // The frame of a case that passed its own tests, into the area's first bytes.
-pub fn write_frame(s: Checked, area: &mut [u8]) -> Verdict
-    ensures { Written frame_bytes s area.old result area.new }
+pub fn write_frame(found: Result<Case, Fault>, area: &mut [u8]) -> Result<Case, Refusal>
+    ensures { Written frame_bytes found area.old result area.new }
 {
-    let v = place(s, frame_size(s), area.len());
-    match v {
-        Verdict::Accepted(c) => {
-            fields::write(area, c);
-            Verdict::Accepted(c)
-        }
-        Verdict::Refused(r) => Verdict::Refused(r),
-    }
+    let c = place(found, frame_size(found), area.len())?;
+    fields::write(area, c);
+    Ok(c)
 }

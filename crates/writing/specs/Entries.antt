@@ -5,7 +5,7 @@ use Rattle.hexadecimals.specs.Digits.{bytes_of}
 use Rattle.fields.specs.Bytes.{fields_of, frame_bytes}
 use Rattle.limits.specs.Tests.{field_tests}
 use Rattle.frame.specs.Tests.{frame_tests, line_tests}
-use Rattle.writable.specs.declared.Verdict.{Verdict}
+use Rattle.writable.specs.Verdict.{Verdict}
 use Rattle.writable.specs.Verdicts.{writable_verdict}
 use Rattle.writable.specs.Writing.{Writes}
 use Rattle.writing.specs.Spelling.{spelling}

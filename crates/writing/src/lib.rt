@@ -1,22 +1,24 @@
 // Writing frames: a frame from its fields, and the one spelling of a case.
 #![tactic(auto)]
 
-ghost use Rattle.std.specs.Prelude.{◌≡◌, ◌≤◌, length};
+ghost use Rattle.std.specs.Prelude.{◌≡◌, ◌≤◌, ◌*◌, length};
 ghost use Rattle.std.proofs.lemmas.List.Edits.{sets};
+ghost use Rattle.hexadecimals.specs.Written.{digits_of};
+ghost use Rattle.fields.specs.Bytes.{frame_bytes};
 ghost use Rattle.writable.specs.Steps.{needed_for, Written};
 ghost use Rattle.writing.specs.Spelling.{as_spelled, spelling};
 ghost use Rattle.writing.specs.Entries.{FromFields, SpellsFrame, SpellsLine};
 
 use guidance::Case;
-use limits::Checked;
-use writable::Verdict;
+use refusals::Fault;
+use writable::Refusal;
 
 // Without a heat of its own if the given one is the table's.
+#[tactic(auto, unfolding(crate::specs::Spelling::as_spelled, crate::specs::Spelling::spelled_heat))]
 fn as_spelled(c: Case) -> Case
     ensures { result ≡ as_spelled c }
 {
-    let mut unheated = c;
-    unheated.heat = 0;
+    let unheated = Case { heat: 0, ..c };
     if c.heat == guidance::heat_of(unheated) {
         unheated
     } else {
@@ -24,63 +26,61 @@ fn as_spelled(c: Case) -> Case
     }
 }
 
-// The spelling of a case, into the area's first bytes. Each length has its own array, so that the loop over it is unrolled.
+// The digits of the frame of a case, which has N bytes, into the area's first bytes. Each length has its own array, so that the loop over it is unrolled.
+fn put_digits<const N: usize>(area: &mut [u8], c: Case)
+    requires { (length (frame_bytes c) ≡ N) × (2 * N ≤ length area.old) }
+    ensures { area.new ≡ sets area.old 0 (digits_of (frame_bytes c)) }
+{
+    let mut frame = [0u8; N];
+    fields::write(&mut frame, c);
+    hexadecimals::write(&frame, area);
+}
+
+// The spelling of a case, into the area's first bytes.
 fn put_spelling(area: &mut [u8], c: Case)
     requires { length (spelling c) ≤ length area.old }
     ensures { area.new ≡ sets area.old 0 (spelling c) }
 {
     let spelled = as_spelled(c);
     if spelled.air == guidance::STANDARD {
-        let mut frame = [0u8; 22];
-        fields::write(&mut frame, spelled);
-        hexadecimals::write(&frame, area);
+        put_digits::<22>(area, spelled);
     } else {
-        let mut frame = [0u8; 24];
-        fields::write(&mut frame, spelled);
-        hexadecimals::write(&frame, area);
+        put_digits::<24>(area, spelled);
     }
 }
 
 // The characters of the spelling of a case that passed its own tests.
-fn spelling_size(s: Checked) -> usize
-    ensures { result ≡ needed_for spelling s }
+fn spelling_size(found: Result<Case, Fault>) -> usize
+    ensures { result ≡ needed_for spelling found }
 {
-    match s {
-        Checked::Sound(c) => 2 * fields::size_of(c),
-        Checked::Unsound(_) => 0,
-    }
+    2 * found.map_or(0, fields::size_of)
 }
 
 // The spelling of a case that passed its own tests.
-fn write_spelling(s: Checked, area: &mut [u8]) -> Verdict
-    ensures { Written spelling s area.old result area.new }
+fn write_spelling(found: Result<Case, Fault>, area: &mut [u8]) -> Result<Case, Refusal>
+    ensures { Written spelling found area.old result area.new }
 {
-    let v = writable::place(s, spelling_size(s), area.len());
-    match v {
-        Verdict::Accepted(c) => {
-            put_spelling(area, c);
-            Verdict::Accepted(c)
-        }
-        Verdict::Refused(r) => Verdict::Refused(r),
-    }
+    let c = writable::place(found, spelling_size(found), area.len())?;
+    put_spelling(area, c);
+    Ok(c)
 }
 
 // A frame from its fields, whatever their numbers, into the area's first bytes.
-pub fn from_fields(c: Case, area: &mut [u8]) -> Verdict
+pub fn from_fields(c: Case, area: &mut [u8]) -> Result<Case, Refusal>
     ensures { FromFields c area.old result area.new }
 {
     writable::write_frame(limits::check(c), area)
 }
 
 // The spelling of a case given as a frame's bytes, into the area's first bytes.
-pub fn spell_frame(frame: &[u8], area: &mut [u8]) -> Verdict
+pub fn spell_frame(frame: &[u8], area: &mut [u8]) -> Result<Case, Refusal>
     ensures { SpellsFrame frame.now area.old result area.new }
 {
     write_spelling(frame::check_frame(frame), area)
 }
 
 // The spelling of a case given as a line, into the area's first bytes.
-pub fn spell_line(line: &[u8], area: &mut [u8]) -> Verdict
+pub fn spell_line(line: &[u8], area: &mut [u8]) -> Result<Case, Refusal>
     ensures { SpellsLine line.now area.old result area.new }
 {
     write_spelling(frame::check_line(line), area)

@@ -6,9 +6,9 @@ use Rattle.answer.proofs.from_line.Goals as goal
 pub enter-requires : goal.enter-requires
 enter-requires c =
     let start = c.args in
-    due_line start.line.now start.area.now c.decide_line-v.ensures
+    due_line start.line.now start.area.now c.decide_line-verdict.ensures
 
 pub returns : goal.returns
 returns c =
     let e = c.enter.ensures in
-    record { verdict = e.verdict ∙ c.decide_line-v.ensures; area = e.area }
+    record { verdict = e.verdict ∙ c.decide_line-verdict.ensures; area = e.area }

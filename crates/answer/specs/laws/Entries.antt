@@ -7,12 +7,12 @@ use Rattle.exact.specs.Formula.{Formula}
 use Rattle.guidance.specs.declared.Case.{Case}
 use Rattle.damage.specs.Damage.{damage}
 use Rattle.damage.specs.laws.Readings.{Neighbours, neighbours}
-use Rattle.frame.specs.declared.Verdict.{Verdict}
+use Rattle.frame.specs.Verdict.{Verdict}
 use Rattle.hexadecimals.specs.Digits.{all_digits, bytes_of}
 use Rattle.frame.specs.Tests.{either}
 use Rattle.frame.specs.laws.Verdicts.{line_frame}
-use Rattle.layout.specs.declared.Probit.{Probit}
-use Rattle.layout.specs.declared.Damages.{Damages}
+use Rattle.layout.specs.declared.Five.{Five}
+use Rattle.layout.specs.declared.Interval.{Interval}
 use Rattle.exact.specs.Between.{whole_z}
 use Rattle.answer.specs.Answer.{ProbitEnds, reading, readings, Answer, FromFrame, FromLine}
 
@@ -38,11 +38,11 @@ near (pos a) (negsuc b) h = omega (arith, h.cross)
 near (negsuc a) (pos b) h = omega (arith, h.cross)
 near (negsuc a) (negsuc b) h = omega (arith, h.cross)
 
-beside : {x : Formula} {p : Probit} → ProbitEnds x p → Neighbours (damage p.lower) (damage p.upper)
+beside : {x : Formula} {p : Interval ℤ} → ProbitEnds x p → Neighbours (damage p.lower) (damage p.upper)
 beside {p = p} e = neighbours p.lower p.upper (in_order _ _ e.value.ordered) (near _ _ e.closed)
 
 -- document 01: the two damage ends of each probit of an answer are equal or neighbours in the table
-pub record DamagesNear (d : Damages) : Type 0 where
+pub record DamagesNear (d : Five (Interval ℕ)) : Type 0 where
   pub first : Neighbours d.first.lower d.first.upper
   pub second : Neighbours d.second.lower d.second.upper
   pub third : Neighbours d.third.lower d.third.upper

@@ -1,5 +1,5 @@
 -- The starred entries hold in every permitted air. Assumes nothing.
-use Rattle.std.specs.Prelude.{ℕ, ◌+◌, ◌*◌, ◌/◌, ◌%◌, ◌≤◌, ◌≡◌, refl, true, false, [], ◌∷◌, ◌++◌}
+use Rattle.std.specs.Prelude.{ℕ, ◌+◌, ◌*◌, ◌/◌, ◌%◌, ◌≤◌, ◌≡◌, refl, true, false, [], ◌∷◌, ◌++◌, Err, Ok}
 use Rattle.std.proofs.Math.Path.{ap}
 use Rattle.std.proofs.Common.{◌∙◌, arith}
 use Rattle.exact.specs.Fraction.{whole, ◌⊗◌, power}
@@ -18,10 +18,9 @@ use Rattle.refusals.specs.Order.{first_of}
 use Rattle.fields.specs.Bytes.{air_in, fields_of, settings, first_bytes, frame_bytes}
 use Rattle.byte_numbers.specs.Numbers.{one}
 use Rattle.limits.specs.Tests.{quantity_outside, heat_missing, value_tests, field_tests}
-use Rattle.limits.specs.declared.Checked.{Checked}
+use Rattle.limits.specs.Checked.{Checked}
 use Rattle.limits.specs.laws.Limits.{not_outside}
 use Rattle.frame.specs.declared.Refusal.TheVariants.{Faulty, Beyond}
-use Rattle.frame.specs.declared.Verdict.TheVariants.{Accepted, Refused}
 use Rattle.frame.specs.Tests.{frame_tests}
 use Rattle.frame.specs.Verdicts.{last_tests, frame_verdict}
 use Rattle.frame.specs.Checks.{judged}
@@ -44,11 +43,11 @@ module _ {mass heat air : ℕ} (h : EqualToAir mass heat air) where
   unfolding less metres cube24 power whole ◌⊗◌
   at_2401_cm = farther_metres (known.q_energy h 0 2401) cube24
 
-  accepted : frame_verdict (frame_bytes (q_in mass heat air 0 2400)) 77 ≡ Accepted (q_in mass heat air 0 2400)
+  accepted : frame_verdict (frame_bytes (q_in mass heat air 0 2400)) 77 ≡ Ok (q_in mass heat air 0 2400)
   unfolding last_tests first_of
   accepted = own_placed (known.q_heated h (omega arith) (omega arith) (omega arith)) 77 ∙ simp at_2400_cm
 
-  beyond : frame_verdict (frame_bytes (q_in mass heat air 0 2401)) 77 ≡ Refused Beyond
+  beyond : frame_verdict (frame_bytes (q_in mass heat air 0 2401)) 77 ≡ Err Beyond
   unfolding last_tests first_of
   beyond = own_placed (known.q_heated h (omega arith) (omega arith) (omega arith)) 77 ∙ simp at_2401_cm
 
@@ -71,7 +70,7 @@ module _ {mass heat air : ℕ} (h : EqualToAir mass heat air) where
 module _ (air : ℕ) (least : 5000 ≤ air) (most : air ≤ 11000) where
   -- of substance 25 or 47
   no_heat : (substance : ℕ) → substance ≤ 75 → heat_missing (in_air (fields_of (frame_of substance 0 1 0 100)) air) ≡ true
-      → frame_verdict (starred_in air substance 1 0) 77 ≡ Refused (Faulty Heat)
+      → frame_verdict (starred_in air substance 1 0) 77 ≡ Err (Faulty Heat)
   unfolding in_air air_in fields_of first_of field_tests value_tests quantity_outside
   no_heat substance s m =
       let fields : Fields (in_air (fields_of (frame_of substance 0 1 0 100)) air) =
@@ -97,7 +96,7 @@ module _ (air : ℕ) (least : 5000 ≤ air) (most : air ≤ 11000) where
       } in
       own_judged fields 77 ∙ simp (not_outside 0 75 substance (omega arith) s, not_outside 5000 11000 air least most, m)
 
-  no_substance : frame_verdict (starred_in air 76 5 1013) 77 ≡ Refused (Faulty Substance)
+  no_substance : frame_verdict (starred_in air 76 5 1013) 77 ≡ Err (Faulty Substance)
   unfolding in_air air_in fields_of frame_bytes first_bytes settings one first_of field_tests value_tests
   no_substance =
       let c : Case = in_air (fields_of (frame_of 76 0 5 1013 100)) air in

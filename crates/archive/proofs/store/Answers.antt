@@ -1,13 +1,7 @@
 -- `archive::store` meets its contract: the columns of what was gathered. Assumes nothing.
-use mathlib.Core.Path.{sym}
-use lib.Seq.{length-take-le}
-use Rattle.archive.proofs.Gathering.{gathered_frames, gathered_archived}
 use borrow.Author.Rules.{rules}
+use Rattle.archive.proofs.Gathering.{gathered_frames, gathered_archived}
 use Rattle.archive.proofs.store.Goals as goal
-
-pub slice_bounds-store-end : goal.slice_bounds-store-end
-slice_bounds-store-end c =
-    sym (length-take-le _ _ (search rules))
 
 pub store-requires : goal.store-requires
 store-requires c =

@@ -1,19 +1,16 @@
--- `areas::written` meets its contract: what is counted of the first bytes, byte by byte. Assumes nothing.
-use Rattle.areas.specs.laws.Areas.{begin, marked, unmarked, ended}
+-- `areas::written` meets its contract: what is left of an area without the marks that it ends in. Assumes nothing.
+use Rattle.std.proofs.Common.{arith, ap, take, length, ◌≡◌, ℕ, ◌-◌, length-take-le}
+use Rattle.areas.specs.Areas.{written_in}
+use Rattle.areas.specs.laws.Areas.{written_marks}
 use Rattle.areas.proofs.written.Goals as goal
-use Rattle.areas.proofs.written.Goals.{then-area-i-ne-MARK, else-area-i-ne-MARK}
 
-pub loop-i-preserved : goal.loop-i-preserved
-loop-i-preserved c =
-    let inside = c.loop-i-test.true in
-    elim c.if-area-i-ne-MARK.branch [
-      | then-area-i-ne-MARK w ↦ rw w.n-is (unmarked c.loop-i.invariant inside w.if-area-i-ne-MARK.true)
-      | else-area-i-ne-MARK w ↦ rw w.n-is (marked c.loop-i.invariant inside w.if-area-i-ne-MARK.false)
-    ]
+pub returns-clause-part : goal.returns-clause-part
+returns-clause-part c =
+    let e = written_marks c.args.area.now in
+    let n : length c.args.area.now - c.marks_of.result ≡ written_in c.args.area.now = omega arith in
+    ap (λ (k : ℕ). take k c.args.area.now) n
 
-pub returns : goal.returns
-returns c =
-    ended c.loop-i.invariant c.loop-i-test.false
-
-pub loop-i-init : goal.loop-i-init
-loop-i-init c = begin _
+pub returns-clause-size : goal.returns-clause-size
+returns-clause-size c =
+    let e = written_marks c.args.area.now in
+    omega (arith, length-take-le (length c.args.area.now - c.marks_of.result) c.args.area.now (omega arith))

@@ -1,39 +1,36 @@
--- One byte more of an area, and one turn of the loop that counts. Assumes nothing.
-use Rattle.std.specs.Prelude.{ℕ, suc, ◌+◌, ◌≤◌, ◌<◌, ◌≡◌, refl, Bool, true, false, cond, List, [], ◌∷◌, ◌++◌, eqb, length, get_or, take}
-use Rattle.std.proofs.Common.{sym, ap, ◌∙◌, add-one, arith, take_all, length-take-le, take-suc, eq-eqb, ne_eqb}
-use Rattle.areas.specs.Areas.{mark, before, written_in}
+-- One byte more of an area, and the marks that it ends in. Assumes nothing.
+use Rattle.std.specs.Prelude.{ℕ, suc, ◌+◌, ◌≡◌, refl, Bool, true, false, cond, List, [], ◌∷◌, ◌++◌, ◌==◌, length, reverse}
+use Rattle.std.specs.List.{take_while}
+use Rattle.std.proofs.lemmas.Grind.{reverse_onto}
+use Rattle.std.proofs.lemmas.List.{reverse-reverse, length-reverse}
+use Rattle.std.proofs.Common.{ap, ◌∙◌, arith}
+use Rattle.std.proofs.lemmas.List.Sums.{take_while-cons}
+use Rattle.areas.specs.Areas.{mark, before, written_in, marks_of}
 
-pub one_more : (l : List ℕ) (b : ℕ) → written_in (l ++ (b ∷ [])) ≡ cond (eqb b mark) (written_in l) (suc (length l))
+pub one_more : (l : List ℕ) (b : ℕ) → written_in (l ++ (b ∷ [])) ≡ cond (b == mark) (written_in l) (suc (length l))
 unfolding written_in
 one_more [] b = refl
-one_more (x ∷ l) b = ap (before x) (one_more l b) ∙ go (eqb b mark)
+one_more (x ∷ l) b = ap (before x) (one_more l b) ∙ go (b == mark)
   where
     go : (t : Bool) → before x (cond t (written_in l) (suc (length l))) ≡ cond t (before x (written_in l)) (suc (suc (length l)))
     go true = refl
     go false = refl
 
--- so much is written in the first i bytes, and how much in one more
-pub record Counted (area : List ℕ) (n i : ℕ) : Type 0 where
-  pub count : n ≡ written_in (take i area)
-  pub most : n ≤ i
-  pub within : i ≤ length area
-
-pub begin : (area : List ℕ) → Counted area 0 0
+-- the same of an area that is read from its end on
+from_end : (l : List ℕ) → written_in (reverse l) + length (take_while (λ b. b == mark) l) ≡ length l
 unfolding written_in
-begin area = record { count = refl; most = omega arith; within = omega arith }
+from_end [] = refl
+from_end (b ∷ l) =
+    let r : reverse (b ∷ l) ≡ reverse l ++ (b ∷ []) = reverse_onto l b [] in
+    rw (r, take_while-cons (λ (b : ℕ). b == mark) b l, one_more (reverse l) b, length-reverse l) (go (b == mark) (from_end l))
+  where
+    go : (t : Bool) → written_in (reverse l) + length (take_while (λ b. b == mark) l) ≡ length l → cond t (written_in (reverse l)) (suc (length l)) + length (cond t (b ∷ take_while (λ b. b == mark) l) []) ≡ suc (length l)
+    go true more = omega (arith, more)
+    go false more = omega arith
 
-next : (area : List ℕ) (i : ℕ) → i < length area → written_in (take (i + 1) area) ≡ cond (eqb (get_or area i 0) mark) (written_in (take i area)) (i + 1)
-next area i h =
-    ap (λ (k : ℕ). written_in (take k area)) (add-one i)
-    ∙ ap written_in (take-suc area i 0 h)
-    ∙ one_more (take i area) (get_or area i 0)
-    ∙ ap (λ (k : ℕ). cond (eqb (get_or area i 0) mark) (written_in (take i area)) k) (ap suc (length-take-le i area (omega arith)) ∙ sym (add-one i))
-
-pub marked : {area : List ℕ} {n i : ℕ} → Counted area n i → i < length area → get_or area i 0 ≡ mark → Counted area n (i + 1)
-marked {area} {n} {i} s h e = record { count = s.count ∙ sym (next area i h ∙ simp (eq-eqb (get_or area i 0) mark e)); most = omega arith; within = omega arith }
-
-pub unmarked : {area : List ℕ} {n i : ℕ} → Counted area n i → i < length area → (get_or area i 0 ≡ mark → ⊥) → Counted area (i + 1) (i + 1)
-unmarked {area} {n} {i} s h e = record { count = sym (next area i h ∙ simp (ne_eqb (get_or area i 0) mark e)); most = omega arith; within = omega arith }
-
-pub ended : {area : List ℕ} {n i : ℕ} → Counted area n i → length area ≤ i → (n ≡ written_in area) × (n ≤ length area)
-ended {area} {n} {i} s h = (s.count ∙ ap written_in (take_all i area h), omega (arith, s.most, s.within))
+-- what was written, and then marks alone
+pub written_marks : (area : List ℕ) → written_in area + marks_of area ≡ length area
+written_marks area =
+    let e = from_end (reverse area) in
+    let e' = rw (reverse-reverse area, length-reverse area) at e in
+    e'

@@ -1,32 +1,32 @@
 -- `blast::reduced_distance` meets its contract. Assumes nothing.
 use native.Mathlib.Omega.{arith}
-use Rattle.blast.proofs.Reduced.{worded, share_divisible, share_rootable, distance_divisible, distance_result}
+use Rattle.blast.proofs.Reduced.{ready, worded, share_divisible, share_rootable, distance_divisible, distance_result}
 use Rattle.blast.proofs.reduced_distance.Goals as goal
 
 pub energy-joules-requires : goal.energy-joules-requires
 energy-joules-requires c =
-    worded c.requires.cloud
+    worded c.args.at.now.placed.cloud
 
 pub quo_whole-share-requires : goal.quo_whole-share-requires
 quo_whole-share-requires c =
-    let h = c.requires in
+    let h = ready c.args.at.now c.requires in
     record { above = omega (arith, h.pressure.least); divisible = λ b w. share_divisible h c.energy-joules.ensures w }
 
 pub cube_root-root-requires : goal.cube_root-root-requires
 cube_root-root-requires c =
     let q = c.quo_whole-share.ensures in
-    share_rootable c.requires c.energy-joules.ensures q.whole q.quotient
+    share_rootable (ready c.args.at.now c.requires) c.energy-joules.ensures q.whole q.quotient
 
 pub fraction-metres-requires : goal.fraction-metres-requires
 fraction-metres-requires c =
-    let h = c.requires in (omega (arith, h.accepted.fields.distance), omega arith)
+    let h = c.args.at.now.placed in (omega (arith, h.fields.distance), omega arith)
 
 pub quo-requires : goal.quo-requires
 quo-requires c =
     let q = c.quo_whole-share.ensures in
-    distance_divisible c.requires c.energy-joules.ensures q.whole q.quotient c.cube_root-root.ensures c.fraction-metres.ensures
+    distance_divisible (ready c.args.at.now c.requires) c.energy-joules.ensures q.whole q.quotient c.cube_root-root.ensures c.fraction-metres.ensures
 
 pub returns : goal.returns
 returns c =
     let q = c.quo_whole-share.ensures in
-    distance_result c.requires c.energy-joules.ensures q.whole q.quotient c.cube_root-root.ensures c.fraction-metres.ensures c.quo.ensures
+    distance_result (ready c.args.at.now c.requires) c.energy-joules.ensures q.whole q.quotient c.cube_root-root.ensures c.fraction-metres.ensures c.quo.ensures

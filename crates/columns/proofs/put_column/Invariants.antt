@@ -1,11 +1,7 @@
--- `columns::put_column` meets its contract: the bytes passed are written. Assumes nothing.
-use Prim.Native.Nat.{◌-◌}
-use lib.ListN.{length}
+-- `columns::put_column` meets its contract: the bytes of the rows passed are written. Assumes nothing.
 use Rattle.columns.proofs.Filling.{Column}
+use lib.ListN.{length}
 use Rattle.columns.proofs.put_column.Given as goal
 
-abbrev pub invariant-loop-i : goal.invariant-loop-i
-invariant-loop-i l = Column l.from l.start l.width (length l.initial.to) l.to l.at l.i
-
-abbrev pub decreases-loop-i : goal.decreases-loop-i
-decreases-loop-i l = length l.initial.to - l.i
+abbrev pub invariant-loop-row : goal.invariant-loop-row
+invariant-loop-row l = Column l.from l.start l.width (length l.initial.to) l.to l.row

@@ -1,29 +1,22 @@
--- `damage::from_zero` meets its contract. Assumes nothing.
-use mathlib.Core.Path.{sym, ◌∙◌, ap}
-use native.Mathlib.Omega.{arith}
-use lib.IntN.{pos, nat_abs}
-use Prim.Native.Nat.{◌^◌, ◌<◌}
+-- `damage::from_zero` meets its contract: what fits an unsigned word is itself, and nothing below zero does. Assumes nothing.
+use Rattle.std.proofs.Common.{◌≡◌, ℕ, ◌^◌, ◌<◌, ℤ, pos, negsuc, ◌∙◌, unsigned_abs, Result, Ok, Err, arith}
+use lib.Signed.{mag}
+use Rattle.std.specs.Int.{FitsUnsignedBits}
+use Rattle.std.specs.Result.{OkIff, result_unwrap_or}
+use Rattle.signed.proofs.Back.{back}
 use Rattle.damage.specs.laws.Readings.{from_zero}
-use Rattle.signed.specs.Reading.{Read}
-use Rattle.signed.proofs.Reading.{as_pos, as_neg}
 use Rattle.damage.proofs.from_zero.Goals as goal
 
-read : (c : goal.Then-probit-ge0) → Read pos c.args.probit
-read c = as_pos _ c.ranges.probit.sfits c.if-probit-ge0.true
-
-pub overflow_cast-result : goal.overflow_cast-result
-overflow_cast-result c =
-    let x = read c in
-    let small : x.a < 2 ^ 63 = rw x.same at c.ranges.probit.sfits in
-    rw x.read (tt, record { fits = omega arith })
-
-pub returns-then-probit-ge0 : goal.returns-then-probit-ge0
+read : {E : Type 0} (z : ℤ) (r : Result ℕ E) (n : ℕ) → mag z < 2 ^ 63 → OkIff r (FitsUnsignedBits 64 z) (unsigned_abs z) → n ≡ result_unwrap_or r 0 → n ≡ from_zero z
 unfolding from_zero
-returns-then-probit-ge0 c =
-    let x = read c in
-    ap nat_abs x.read ∙ sym (ap from_zero x.same)
+read (pos a) (Ok x) n f h e = e ∙ h.1
+read (pos a) (Err x) n f h e = absurd (h (omega arith))
+read (negsuc a) (Ok x) n f h e = absurd h.0
+read (negsuc a) (Err x) n f h e = e
 
-pub returns-else-probit-ge0 : goal.returns-else-probit-ge0
-unfolding from_zero
-returns-else-probit-ge0 c =
-    sym (ap from_zero (as_neg c.args.probit c.ranges.probit.sfits c.if-probit-ge0.false).same)
+pub returns : goal.returns
+returns c =
+    let p = c.args.probit in
+    let s = c.ranges.probit.sfits in
+    let same = back p s in
+    read p _ _ s (rw same at c.try_from.ensures) c.unwrap_or.ensures

@@ -1,25 +1,12 @@
--- `damage::rank` meets its contract: each turn halves what is left. Assumes nothing.
-use Prim.Native.Nat.{◌+◌, ◌*◌, ◌/◌}
-use mathlib.Core.Path.{◌∙◌, ap}
-use borrow.Author.Rules.{rules}
-use lib.ListN.{get_or}
-use Rattle.damage.proofs.Ranks.{halved_start, halved_low, halved_high, halved_end}
+-- `damage::rank` meets its contract: the table rises, so that the entries not above p are its first ones. Assumes nothing.
+use Rattle.std.proofs.Common.{◌*◌, leb, rules}
+use Rattle.std.proofs.lemmas.List.Sorted.{IsPartitionPoint-from_clause}
+use Rattle.damage.specs.Damage.{table}
+use Rattle.damage.proofs.Ranks.{parted, counted}
 use Rattle.damage.proofs.rank.Goals as goal
 
-pub loop-lo-init : goal.loop-lo-init
-loop-lo-init c =
-    halved_start _
-
-pub loop-lo-preserved-then-in_thousandths-p : goal.loop-lo-preserved-then-in_thousandths-p
-loop-lo-preserved-then-in_thousandths-p c =
-    let mid = (c.loop-lo.lo + c.loop-lo.hi) / 2 in
-    halved_low mid c.loop-lo.invariant (search rules) (c.in_thousandths.ensures ∙ ap (λ l. 10 * get_or l mid 0) c.requires) (search rules)
-
-pub loop-lo-preserved : goal.loop-lo-preserved
-loop-lo-preserved c =
-    let mid = (c.loop-lo.lo + c.loop-lo.hi) / 2 in
-    halved_high mid c.loop-lo.invariant (search rules) (search rules) (c.in_thousandths.ensures ∙ ap (λ l. 10 * get_or l mid 0) c.requires) (search rules)
-
 pub returns : goal.returns
+unfolding table
 returns c =
-    halved_end c.loop-lo.invariant c.loop-lo-test.false
+    let p = c.args.p in
+    counted p _ c.partition_point.ensures.bound (IsPartitionPoint-from_clause (λ x. leb (10 * x) p) table _ c.partition_point.ensures.partitioned (parted p) λ a r f k. search rules)

@@ -1,31 +1,24 @@
--- `damage::reading` meets its contract: the array is the definition's table. Assumes nothing.
-use mathlib.Core.Path.{refl}
-use native.Mathlib.Omega.{arith}
-use Rattle.damage.specs.Damage.{table}
+-- `damage::reading` meets its contract. Assumes nothing.
+use Rattle.std.proofs.Common.{arith}
 use Rattle.damage.specs.laws.Readings.{before_table, past_table, table_count, tenths_low, tenths_high}
 use Rattle.damage.proofs.reading.Goals as goal
-
-pub rank-n-requires : goal.rank-n-requires
-unfolding table
-rank-n-requires c =
-    refl
 
 pub overflow_add-result : goal.overflow_add-result
 overflow_add-result c =
     omega (arith, table_count c.args.p)
 
-pub returns-then-p-lt2670 : goal.returns-then-p-lt2670
-returns-then-p-lt2670 c =
-    before_table c.if-p-lt2670.true
+pub returns-in-0-to-2669 : goal.returns-in-0-to-2669
+returns-in-0-to-2669 c =
+    before_table {p = c.args.p} (omega (arith, c.in-0-to-2669))
 
-pub returns-then-p-ge8090 : goal.returns-then-p-ge8090
-returns-then-p-ge8090 c =
-    past_table c.if-p-ge8090.true
+pub returns-in-0-to-99 : goal.returns-in-0-to-99
+returns-in-0-to-99 c =
+    tenths_low c.rank.ensures (omega (arith, c.in-0-to-99))
 
-pub returns-then-n-le99 : goal.returns-then-n-le99
-returns-then-n-le99 c =
-    tenths_low c.rank-n.ensures c.if-n-le99.true
+pub returns-in_default-rank : goal.returns-in_default-rank
+returns-in_default-rank c =
+    tenths_high c.rank.ensures (omega (arith, c.in_default-rank))
 
-pub returns-else-n-le99 : goal.returns-else-n-le99
-returns-else-n-le99 c =
-    tenths_high c.rank-n.ensures c.if-n-le99.false
+pub returns-in_default : goal.returns-in_default
+returns-in_default c =
+    past_table {p = c.args.p} (omega (arith, c.in_default))

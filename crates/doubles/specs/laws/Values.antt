@@ -118,6 +118,14 @@ usable_le (fin s m e) a c h v =
     through M D a c v l = omega (arith, v, mul-le-mul_right c l)
 
 -- the code's three tests are test 16
+pub three_tests : (x : Float) → (is_nan x || lt x (whole 0) || lt (whole 1000000000) x) ≡ unusable x
+unfolding unusable is_nan lt of_int
+three_tests nan = refl
+three_tests (inf true) = refl
+three_tests (inf false) = refl
+three_tests (fin s m e) = refl
+
+-- and one by one
 pub nan_unusable : (x : Float) → ne x x ≡ true → true ≡ unusable x
 unfolding unusable
 nan_unusable x h = subst (λ (y : Float). true ≡ unusable y) (sym (differs_from_itself x (subst T (sym h) tt))) refl

@@ -3,7 +3,6 @@
 use mathlib.Core.Path.{◌≡◌, ap, ◌∙◌}
 use native.Mathlib.Omega.{arith}
 use lib.IntN.{ℤ, pos, ◌-ℤ◌}
-use Rattle.span.specs.Enclosing.{divisor}
 use Rattle.fixed.specs.declared.Log.{Log}
 use Rattle.fixed.specs.Logs.{apart}
 use Rattle.enclosure.specs.Promises.{Exponent}
@@ -30,27 +29,9 @@ module _ (y : Log) (e : Exponent y) where
   wide_read : R (R y.hi -ℤ R y.lo) ≡ pos (apart y.lo y.hi)
   wide_read = step wide (omega (arith, e.narrow.narrow))
 
-pub point-x-requires : goal.point-x-requires
-point-x-requires c =
-    let e = c.requires in rw (hi-read _ e) (e.most, upper_least _ e)
-
-pub overflow_sub-d : goal.overflow_sub-d
-overflow_sub-d c =
-    let e = c.requires in rw (wide _ e) (record { sfits = omega (arith, e.narrow.narrow) })
-
-pub overflow_cast-w : goal.overflow_cast-w
-overflow_cast-w c =
-    let e = c.requires in rw (wide_read _ e) (tt, record { fits = omega (arith, e.narrow.narrow) })
-
-pub lowered-requires : goal.lowered-requires
-lowered-requires c =
-    let e = c.requires in
-    let h = c.point-x.ensures in
-    rw (wide_read _ e) (record { normal = h.normal; bound = (divisor h.normal h.width (omega arith), omega (arith, e.narrow.narrow)) })
-
 pub returns : goal.returns
 returns c =
     let e = c.requires in
-    let h = rw (hi-read _ e) at c.point-x.ensures in
+    let h = rw (hi-read _ e) at c.point-upper.ensures in
     let w = rw (wide_read _ e) at c.lowered.ensures in
     interval _ e h w

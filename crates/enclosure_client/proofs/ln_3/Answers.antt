@@ -6,12 +6,12 @@ use Rattle.enclosure_client.proofs.ln_3.Goals as goal
 
 pub ln-requires : goal.ln-requires
 ln-requires c =
-    let t = c.whole-t.ensures in
+    let t = c.whole.ensures in
     record { normal = t.normal; far = divisor t.normal t.width (omega arith); most = omega (arith, t.most 2 (omega arith)) }
 
 pub returns : goal.returns
 returns c =
-    let t = c.whole-t.ensures in
+    let t = c.whole.ensures in
     let r = c.ln.ensures in
     let w = r.width 2 t.width (omega arith) in
     record {

@@ -5,7 +5,7 @@ use Rattle.fields.proofs.air_in.Goals as goal
 
 pub returns-then-frame-eq24 : goal.returns-then-frame-eq24
 returns-then-frame-eq24 c =
-    c.two_at.ensures.0 ∙ sym (written_in_lem _ c.if-frame-eq24.true)
+    c.number_at.ensures.number ∙ sym (written_in_lem _ c.if-frame-eq24.true)
 
 pub returns-else-frame-eq24 : goal.returns-else-frame-eq24
 returns-else-frame-eq24 c =

@@ -8,15 +8,15 @@ unfolding fields_of
 returns c =
     rw (
       c.air_in-air.ensures,
-      c.one_at.ensures.0,
-      c.one_at-2.ensures.0,
-      c.one_at-3.ensures.0,
-      c.one_at-4.ensures.0,
-      c.four_at.ensures.0,
-      c.two_at.ensures.0,
-      c.two_at-2.ensures.0,
-      c.four_at-2.ensures.0,
-      c.four_at-3.ensures.0,
-      c.two_at-3.ensures.0,
+      c.number_at.ensures.number,
+      c.number_at-2.ensures.number,
+      c.number_at-3.ensures.number,
+      c.number_at-4.ensures.number,
+      c.number_at-5.ensures.number,
+      c.number_at-6.ensures.number,
+      c.number_at-7.ensures.number,
+      c.number_at-8.ensures.number,
+      c.number_at-9.ensures.number,
+      c.number_at-10.ensures.number,
     )
     refl

@@ -9,7 +9,7 @@ pub returns : goal.returns
 unfolding first_bytes settings one two four
 returns c =
     and_then c.write_settings.ensures
-    (and_then c.put_four.ensures
-    (and_then c.put_two.ensures
-    (and_then c.put_two-2.ensures
-    (and_then c.put_four-2.ensures (and_then c.put_four-3.ensures c.put_two-3.ensures refl) refl) refl) refl) refl) refl
+    (and_then c.put.ensures
+    (and_then c.put-2.ensures
+    (and_then c.put-3.ensures
+    (and_then c.put-4.ensures (and_then c.put-5.ensures c.put-6.ensures refl) refl) refl) refl) refl) refl

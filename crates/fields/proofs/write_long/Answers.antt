@@ -8,4 +8,4 @@ use Rattle.fields.proofs.write_long.Goals as goal
 pub returns : goal.returns
 unfolding long_frame
 returns c =
-    and_then c.write_first.ensures c.put_two.ensures (omega (arith, first_length c.args.c))
+    and_then c.write_first.ensures c.put.ensures (omega (arith, first_length c.args.c))

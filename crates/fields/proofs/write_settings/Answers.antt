@@ -8,5 +8,5 @@ use Rattle.fields.proofs.write_settings.Goals as goal
 pub returns : goal.returns
 unfolding settings one
 returns c =
-    and_then c.put_one.ensures
-    (and_then c.put_one-2.ensures (and_then c.put_one-3.ensures c.put_one-4.ensures refl) refl) refl
+    and_then c.put.ensures
+    (and_then c.put-2.ensures (and_then c.put-3.ensures c.put-4.ensures refl) refl) refl

@@ -1,19 +1,14 @@
--- `frame::check_frame` meets its contract: a frame of 22 or 24 bytes is tested by its fields. Assumes nothing.
-use mathlib.Core.Path.{ap, sym, ◌∙◌}
+-- A frame of 22 or 24 bytes is tested by its fields.
+use Rattle.std.proofs.Common.{sym, ap, ◌∙◌, ⊎_elim, rules}
 use Rattle.limits.specs.Checks.{case_checked}
-use Rattle.frame.specs.laws.Lengths.{enough}
+use Rattle.frame.specs.laws.Lengths.{is_first, is_second, is_neither}
 use Rattle.frame.specs.laws.Checks.{frame_checked_lem, frame_unsound_length}
 use Rattle.frame.proofs.check_frame.Goals as goal
 
-pub read-requires : goal.read-requires
-read-requires c =
-    enough c.args.frame.now (sym c.is_either.ensures ∙ c.if-is_either.true)
+pub returns-in-22 : goal.returns-in-22
+returns-in-22 c =
+    c.check.ensures ∙ ap case_checked c.read.ensures ∙ sym (frame_checked_lem c.args.frame.now (⊎_elim (is_first 22 24 _) (is_second 22 24 _) c.in-22.is))
 
-pub returns-then-is_either : goal.returns-then-is_either
-returns-then-is_either c =
-    let a = c.args in
-    c.check.ensures ∙ ap case_checked c.read.ensures ∙ sym (frame_checked_lem a.frame.now (sym c.is_either.ensures ∙ c.if-is_either.true))
-
-pub returns-else-is_either : goal.returns-else-is_either
-returns-else-is_either c =
-    sym (frame_unsound_length c.args.frame.now (sym c.is_either.ensures ∙ c.if-is_either.false))
+pub returns-in_default : goal.returns-in_default
+returns-in_default c =
+    sym (frame_unsound_length c.args.frame.now (is_neither 22 24 c.args.frame.now (search rules) (search rules)))

@@ -1,9 +1,12 @@
--- `frame::check_line` meets its contract: tests 1 and 2, then 3 to 6. Assumes nothing.
-use mathlib.Core.Path.{ap, ◌∙◌}
-use Rattle.frame.specs.Checks.{case_tested}
+-- Tests 1 and 2, then 3 to 6.
+use Rattle.std.proofs.Common.{sym, rules}
 use Rattle.frame.specs.laws.Checks.{line_tested}
 use Rattle.frame.proofs.check_line.Goals as goal
 
+pub returns-in_err-read_line : goal.returns-in_err-read_line
+returns-in_err-read_line c =
+    rw (sym (line_tested c.args.line.now), sym c.read_line.ensures) (search rules)
+
 pub returns : goal.returns
 returns c =
-    c.test_case.ensures ∙ ap case_tested c.read_line-s.ensures ∙ line_tested c.args.line.now
+    rw (sym (line_tested c.args.line.now), sym c.read_line.ensures) (search rules)

@@ -1,16 +1,17 @@
--- `frame::decide_line` meets its contract: tests 1 to 6, then 7 and 8. Assumes nothing.
-use mathlib.Core.Path.{ap, sym, ◌∙◌}
-use Rattle.limits.specs.declared.Checked.{Checked}
-use Rattle.frame.specs.Checks.{judged}
+-- Tests 1 to 6, then 7 and 8.
+use Rattle.std.proofs.Common.{sym, ◌∙◌, rules}
 use Rattle.frame.specs.laws.Checks.{line_heated}
 use Rattle.frame.specs.laws.Verdicts.{line_judged}
 use Rattle.frame.proofs.decide_line.Goals as goal
 
-pub judge-requires : goal.judge-requires
-judge-requires c d e =
-    line_heated _ d (sym c.check_line-s.ensures ∙ e)
+pub place-requires : goal.place-requires
+place-requires c =
+    line_heated _ _ (sym c.check_line.ensures ∙ c.in_ok-check_line.was)
+
+pub returns-in_err-check_line : goal.returns-in_err-check_line
+returns-in_err-check_line c =
+    rw (line_judged c.args.line.now c.args.room, sym c.check_line.ensures) (search rules)
 
 pub returns : goal.returns
 returns c =
-    let a = c.args in
-    c.judge.ensures ∙ ap (λ (s : Checked). judged s a.room) c.check_line-s.ensures ∙ sym (line_judged a.line.now a.room)
+    rw (line_judged c.args.line.now c.args.room, sym c.check_line.ensures) (search rules)

@@ -1,5 +1,5 @@
 -- Laws of tests 1 to 6. Assumes nothing.
-use Rattle.std.specs.Prelude.{ℕ, ◌≡◌, refl, Bool, true, false, List, eqb}
+use Rattle.std.specs.Prelude.{ℕ, ◌≡◌, refl, Bool, true, false, List, eqb, Err, Ok}
 use Rattle.std.proofs.Common.{sym, ap, ◌∙◌, eqb-true}
 use Rattle.std.proofs.Math.Option.{Option, none, some}
 use Rattle.std.proofs.lemmas.Bool.{eqb-false, not-false}
@@ -14,7 +14,6 @@ use Rattle.refusals.specs.Order.{first_of}
 use Rattle.refusals.proofs.laws.Order.{none_first}
 use Rattle.fields.specs.Bytes.{fields_of, frame_bytes}
 use Rattle.fields.specs.laws.Back as back
-use Rattle.limits.specs.declared.Checked.TheVariants.{Sound, Unsound}
 use Rattle.limits.specs.Tests.{field_tests}
 use Rattle.limits.specs.Checks.{checked_by, HeatedIfSound, case_checked}
 use Rattle.limits.specs.laws.Checks.{sound_by, heated_by_lem}
@@ -47,7 +46,7 @@ line_frame line h d = simp (h, d) (sym (frame_case (bytes_of line) (spelled_leng
 
 -- what they make of a frame and of a line
 
-pub frame_unsound_length : (frame : List ℕ) → either 22 24 frame ≡ false → frame_checked frame ≡ Unsound Length
+pub frame_unsound_length : (frame : List ℕ) → either 22 24 frame ≡ false → frame_checked frame ≡ Err Length
 unfolding frame_checked
 frame_unsound_length frame h = rw (frame_length_lem frame h) refl
 
@@ -57,15 +56,15 @@ frame_checked_lem frame h = rw (frame_case frame h) refl
 
 -- by tests 1 and 2, one by one
 
-pub read_length : (line : List ℕ) → either 44 48 line ≡ false → line_read line ≡ Unsound Length
+pub read_length : (line : List ℕ) → either 44 48 line ≡ false → line_read line ≡ Err Length
 unfolding line_read
 read_length line h = simp h
 
-pub read_digit : (line : List ℕ) → either 44 48 line ≡ true → all_digits line ≡ false → line_read line ≡ Unsound Digit
+pub read_digit : (line : List ℕ) → either 44 48 line ≡ true → all_digits line ≡ false → line_read line ≡ Err Digit
 unfolding line_read
 read_digit line h d = simp (h, d)
 
-pub read_case : (line : List ℕ) → either 44 48 line ≡ true → all_digits line ≡ true → line_read line ≡ Sound (fields_of (bytes_of line))
+pub read_case : (line : List ℕ) → either 44 48 line ≡ true → all_digits line ≡ true → line_read line ≡ Ok (fields_of (bytes_of line))
 unfolding line_read
 read_case line h d = simp (h, d)
 

@@ -1,6 +1,6 @@
 -- Lines and frames and their verdicts, by computation: document 01's three lines, the propane line in either letter case and in several airs, and several faults at once.
 -- Assumes nothing.
-use Rattle.std.specs.Prelude.{ℕ, ◌≡◌, refl, List, [], ◌∷◌, ◌++◌, replicate}
+use Rattle.std.specs.Prelude.{ℕ, ◌≡◌, refl, List, [], ◌∷◌, ◌++◌, replicate, Err, Ok}
 use Rattle.std.proofs.Math.Decide.{dec_le}
 use Rattle.exact.specs.Fraction.{whole, ◌⊗◌, power}
 use Rattle.guidance.specs.declared.Case.{Case}
@@ -11,7 +11,6 @@ use Rattle.guidance.specs.Clouds.{range_of, ground_factor, lean_by, lean_factor,
 use Rattle.guidance.specs.Distances.{less, metres, cubed, farther, cube24}
 use Rattle.refusals.specs.declared.Fault.TheVariants.{Length, Digit, State, Placement, Surroundings, Quantity, Heat}
 use Rattle.frame.specs.declared.Refusal.TheVariants.{Faulty}
-use Rattle.frame.specs.declared.Verdict.TheVariants.{Accepted, Refused}
 use Rattle.fields.specs.Bytes.{air_in, fields_of}
 use Rattle.hexadecimals.specs.Digits.{digit_of, all_digits, bytes_of}
 use Rattle.refusals.specs.Order.{first_of, held}
@@ -82,25 +81,25 @@ settings state placement surroundings =
     ∷ 1 ∷ 0 ∷ 0 ∷ 3 ∷ 245 ∷ 0 ∷ 0 ∷ 0 ∷ 0 ∷ 0 ∷ 70 ∷ []
 
 pub record Examples : Type 0 where
-  pub empty_line : line_verdict [] 77 ≡ Refused (Faulty Length)
-  pub letters_G : line_verdict (replicate 44 71) 77 ≡ Refused (Faulty Digit)
-  pub third_line_lem : line_verdict third_line 77 ≡ Refused (Faulty Heat)
-  pub propane_line_lem : line_verdict propane_line 77 ≡ Accepted propane
-  pub propane_small_lem : line_verdict propane_small 77 ≡ Accepted propane
+  pub empty_line : line_verdict [] 77 ≡ Err (Faulty Length)
+  pub letters_G : line_verdict (replicate 44 71) 77 ≡ Err (Faulty Digit)
+  pub third_line_lem : line_verdict third_line 77 ≡ Err (Faulty Heat)
+  pub propane_line_lem : line_verdict propane_line 77 ≡ Ok propane
+  pub propane_small_lem : line_verdict propane_small 77 ≡ Ok propane
   -- 1F40: 80,000 Pa; 2792: 101,300 Pa written out; the ends of the air pressure's values, and past them; 46 characters (request 11)
-  pub mountain_line : line_verdict (longer (49 ∷ 70 ∷ 52 ∷ 48 ∷ [])) 77 ≡ Accepted (propane_in 8000)
-  pub standard_written : line_verdict (longer (50 ∷ 55 ∷ 57 ∷ 50 ∷ [])) 77 ≡ Accepted propane
-  pub thinnest : line_verdict (longer (49 ∷ 51 ∷ 56 ∷ 56 ∷ [])) 77 ≡ Accepted (propane_in 5000)
-  pub too_thin : line_verdict (longer (49 ∷ 51 ∷ 56 ∷ 55 ∷ [])) 77 ≡ Refused (Faulty Quantity)
-  pub densest : line_verdict (longer (50 ∷ 65 ∷ 70 ∷ 56 ∷ [])) 77 ≡ Accepted (propane_in 11000)
-  pub too_dense : line_verdict (longer (50 ∷ 65 ∷ 70 ∷ 57 ∷ [])) 77 ≡ Refused (Faulty Quantity)
-  pub characters_46 : line_verdict (longer (49 ∷ 70 ∷ [])) 77 ≡ Refused (Faulty Length)
-  pub placement_line_lem : line_verdict placement_line 77 ≡ Refused (Faulty Placement)
+  pub mountain_line : line_verdict (longer (49 ∷ 70 ∷ 52 ∷ 48 ∷ [])) 77 ≡ Ok (propane_in 8000)
+  pub standard_written : line_verdict (longer (50 ∷ 55 ∷ 57 ∷ 50 ∷ [])) 77 ≡ Ok propane
+  pub thinnest : line_verdict (longer (49 ∷ 51 ∷ 56 ∷ 56 ∷ [])) 77 ≡ Ok (propane_in 5000)
+  pub too_thin : line_verdict (longer (49 ∷ 51 ∷ 56 ∷ 55 ∷ [])) 77 ≡ Err (Faulty Quantity)
+  pub densest : line_verdict (longer (50 ∷ 65 ∷ 70 ∷ 56 ∷ [])) 77 ≡ Ok (propane_in 11000)
+  pub too_dense : line_verdict (longer (50 ∷ 65 ∷ 70 ∷ 57 ∷ [])) 77 ≡ Err (Faulty Quantity)
+  pub characters_46 : line_verdict (longer (49 ∷ 70 ∷ [])) 77 ≡ Err (Faulty Length)
+  pub placement_line_lem : line_verdict placement_line 77 ≡ Err (Faulty Placement)
   -- the first wrong byte in the frame's order, then the distance
-  pub state_first : frame_verdict (settings 2 2 5) 77 ≡ Refused (Faulty State)
-  pub placement_next : frame_verdict (settings 1 2 0) 77 ≡ Refused (Faulty Placement)
-  pub surroundings_last : frame_verdict (settings 1 1 5) 77 ≡ Refused (Faulty Surroundings)
-  pub quantity_after : frame_verdict (settings 1 1 4) 77 ≡ Refused (Faulty Quantity)
+  pub state_first : frame_verdict (settings 2 2 5) 77 ≡ Err (Faulty State)
+  pub placement_next : frame_verdict (settings 1 2 0) 77 ≡ Err (Faulty Placement)
+  pub surroundings_last : frame_verdict (settings 1 1 5) 77 ≡ Err (Faulty Surroundings)
+  pub quantity_after : frame_verdict (settings 1 1 4) 77 ≡ Err (Faulty Quantity)
 
 pub examples : Examples
 unfolding frame_verdict line_verdict first_of held frame_tests line_tests field_tests value_tests last_tests quantity_outside heat_missing air_in fields_of in_air digit_of all_digits bytes_of farther less cubed metres cube24 power whole ◌⊗◌ energy ground_factor lean_factor lean_by dec_le aerosol_factor heat_of betas beta_of range_of range_at ranges class_of

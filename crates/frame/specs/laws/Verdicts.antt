@@ -1,5 +1,5 @@
 -- Laws of the verdicts: when each is given, and what an accepted case satisfies. Assumes nothing.
-use Rattle.std.specs.Prelude.{ℕ, ◌≤◌, ◌<◌, ◌≡◌, refl, true, false, List, ◌++◌}
+use Rattle.std.specs.Prelude.{ℕ, ◌≤◌, ◌<◌, ◌≡◌, refl, true, false, List, ◌++◌, Err, Ok}
 use Rattle.std.proofs.Common.{ap, sym, ◌∙◌, arith, ne_eqb, ltb-false, le-ltb}
 use Rattle.std.proofs.Math.Option.{Option, none, some}
 use Rattle.guidance.specs.declared.Case.{Case}
@@ -11,13 +11,12 @@ use Rattle.refusals.specs.declared.Fault.{Fault}
 use Rattle.refusals.specs.declared.Fault.TheVariants.{Length, Digit, Heat}
 use Rattle.frame.specs.declared.Refusal.{Refusal}
 use Rattle.frame.specs.declared.Refusal.TheVariants.{Faulty, Space}
-use Rattle.frame.specs.declared.Verdict.TheVariants.{Accepted, Refused}
 use Rattle.frame.specs.Refusals.{number}
 use Rattle.fields.specs.Bytes.{fields_of, frame_bytes}
 use Rattle.hexadecimals.specs.Digits.{all_digits, bytes_of}
 use Rattle.refusals.specs.Order.{Test, first_of, held}
 use Rattle.limits.specs.Tests.{heat_missing, value_tests, field_tests}
-use Rattle.limits.specs.declared.Checked.{Checked}
+use Rattle.limits.specs.Checked.{Checked}
 use Rattle.limits.specs.Checks.{checked_by, case_checked}
 use Rattle.limits.specs.laws.Fields.{heated_passes}
 use Rattle.frame.specs.Tests.{either, frame_tests, line_tests}
@@ -52,7 +51,7 @@ own_judged {c} f room = frame_judged (frame_bytes c) room ∙ ap (λ (k : Checke
 pub own_placed : {c : Case} → Heated c → (room : ℕ) → frame_verdict (frame_bytes c) room ≡ placed c room
 own_placed {c} h room = own_judged h.fields room ∙ ap (λ (o : Option Fault). judged (checked_by o c) room) (heated_passes h)
 
-pub line_length : (line : List ℕ) (room : ℕ) → either 44 48 line ≡ false → line_verdict line room ≡ Refused (Faulty Length)
+pub line_length : (line : List ℕ) (room : ℕ) → either 44 48 line ≡ false → line_verdict line room ≡ Err (Faulty Length)
 unfolding line_verdict
 line_length line room h =
     let d = fields_of (bytes_of line) in
@@ -71,7 +70,7 @@ pub record Taken (d c : Case) (room : ℕ) : Type 0 where
   pub accepted : cases.Accepted (air_of c) c
   pub enough : answer_length ≤ room
 
-accepted_by : (o : Option Refusal) (d c : Case) → verdict_by o d ≡ Accepted c → (o ≡ none) × (c ≡ d)
+accepted_by : (o : Option Refusal) (d c : Case) → verdict_by o d ≡ Ok c → (o ≡ none) × (c ≡ d)
 accepted_by none d c h = (refl, cc)
 accepted_by (some r) d c h = let z : ◌≡◌ {A = ℕ} 0 1 = cc in absurd (omega arith)
 
@@ -81,7 +80,7 @@ pub record Clear (ts : List (Test Fault)) (d c : Case) (room : ℕ) : Type 0 whe
   pub last : first_of (last_tests d room) ≡ none
   pub same : c ≡ d
 
-clear : (ts : List (Test Fault)) (d c : Case) (room : ℕ) → verdict_by (first_of (held Faulty ts ++ last_tests d room)) d ≡ Accepted c → Clear ts d c room
+clear : (ts : List (Test Fault)) (d c : Case) (room : ℕ) → verdict_by (first_of (held Faulty ts ++ last_tests d room)) d ≡ Ok c → Clear ts d c room
 clear ts d c room h =
     let a = accepted_by (first_of (held Faulty ts ++ last_tests d room)) d c h in
     let n = neither_found Faulty (first_of ts) (first_of (last_tests d room)) (sym (first_held Faulty ts (last_tests d room)) ∙ a.0) in
@@ -98,7 +97,7 @@ pub record FrameTaken (frame : List ℕ) (c : Case) (room : ℕ) : Type 0 where
   pub size : either 22 24 frame ≡ true
   pub taken : Taken (fields_of frame) c room
 
-pub frame_accepted : (frame : List ℕ) (c : Case) (room : ℕ) → frame_verdict frame room ≡ Accepted c → FrameTaken frame c room
+pub frame_accepted : (frame : List ℕ) (c : Case) (room : ℕ) → frame_verdict frame room ≡ Ok c → FrameTaken frame c room
 unfolding frame_verdict
 frame_accepted frame c room h =
     let k = clear (frame_tests frame) (fields_of frame) c room h in
@@ -110,7 +109,7 @@ pub record LineTaken (line : List ℕ) (c : Case) (room : ℕ) : Type 0 where
   pub digits : all_digits line ≡ true
   pub taken : Taken (fields_of (bytes_of line)) c room
 
-pub line_accepted : (line : List ℕ) (c : Case) (room : ℕ) → line_verdict line room ≡ Accepted c → LineTaken line c room
+pub line_accepted : (line : List ℕ) (c : Case) (room : ℕ) → line_verdict line room ≡ Ok c → LineTaken line c room
 unfolding line_verdict
 line_accepted line c room h =
     let d = fields_of (bytes_of line) in
@@ -119,29 +118,29 @@ line_accepted line c room h =
     record { size = p.0; digits = p.1; taken = taken_by d c room p.2 k.last k.same }
 
 -- a refusal is given only where its test applies
-refused_by : (o : Option Refusal) (d : Case) (r : Refusal) → verdict_by o d ≡ Refused r → o ≡ some r
+refused_by : (o : Option Refusal) (d : Case) (r : Refusal) → verdict_by o d ≡ Err r → o ≡ some r
 refused_by none d r h = let z : ◌≡◌ {A = ℕ} 0 1 = cc in absurd (omega arith)
 refused_by (some q) d r h = let e : q ≡ r = cc in ap {B = Option Refusal} some e
 
-not_refused : (r : Refusal) (ts : List (Test Refusal)) (d : Case) → applies number (number r) ts ≡ false → verdict_by (first_of ts) d ≡ Refused r → ⊥
+not_refused : (r : Refusal) (ts : List (Test Refusal)) (d : Case) → applies number (number r) ts ≡ false → verdict_by (first_of ts) d ≡ Err r → ⊥
 not_refused r ts d a h = absent number r ts a (refused_by (first_of ts) d r h)
 
 -- a frame given as bytes has no test 2
-pub frame_no_digit : (frame : List ℕ) (room : ℕ) → frame_verdict frame room ≡ Refused (Faulty Digit) → ⊥
+pub frame_no_digit : (frame : List ℕ) (room : ℕ) → frame_verdict frame room ≡ Err (Faulty Digit) → ⊥
 unfolding frame_verdict frame_tests field_tests value_tests last_tests held
 frame_no_digit frame room h = not_refused (Faulty Digit) _ (fields_of frame) refl h
 
 -- with room for an answer there is no refusal 8
 
-pub frame_no_space : (frame : List ℕ) (room : ℕ) → answer_length ≤ room → frame_verdict frame room ≡ Refused Space → ⊥
+pub frame_no_space : (frame : List ℕ) (room : ℕ) → answer_length ≤ room → frame_verdict frame room ≡ Err Space → ⊥
 unfolding frame_verdict frame_tests field_tests value_tests last_tests held
 frame_no_space frame room enough h = not_refused Space _ (fields_of frame) (simp (le-ltb room answer_length enough)) h
 
-pub line_no_space : (line : List ℕ) (room : ℕ) → answer_length ≤ room → line_verdict line room ≡ Refused Space → ⊥
+pub line_no_space : (line : List ℕ) (room : ℕ) → answer_length ≤ room → line_verdict line room ≡ Err Space → ⊥
 unfolding line_verdict line_tests field_tests value_tests last_tests held
 line_no_space line room enough h = not_refused Space _ (fields_of (bytes_of line)) (simp (le-ltb room answer_length enough)) h
 
 -- a given heat is never missing
-pub heat_given : (frame : List ℕ) (room : ℕ) → 0 < (fields_of frame).heat → frame_verdict frame room ≡ Refused (Faulty Heat) → ⊥
+pub heat_given : (frame : List ℕ) (room : ℕ) → 0 < (fields_of frame).heat → frame_verdict frame room ≡ Err (Faulty Heat) → ⊥
 unfolding frame_verdict frame_tests field_tests value_tests last_tests held heat_missing
 heat_given frame room given h = not_refused (Faulty Heat) _ (fields_of frame) (simp (ne_eqb (fields_of frame).heat 0 (λ e. omega arith))) h

@@ -10,5 +10,5 @@ pub returns : goal.returns
 unfolding whole_tests
 returns c =
     let o = c.args.o in
-    let values = c.check_values-s.ensures ∙ ap values_checked c.case_of.ensures in
+    let values = c.check_values-found.ensures ∙ ap values_checked c.case_of.ensures in
     c.check_heat.ensures ∙ (λ k. heat_checked (c.is_heat_lost.ensures k) (values k)) ∙ heat_last (lost_heat o) (case_of o)

@@ -1,5 +1,5 @@
 -- Tests 1, 2, 15 and 16, one by one. Assumes nothing.
-use Rattle.std.specs.Prelude.{ℕ, ◌≡◌, refl, Bool, true, false, cond, List, length}
+use Rattle.std.specs.Prelude.{ℕ, ◌≡◌, refl, Bool, true, false, cond, List, length, Err, Ok}
 use Rattle.std.proofs.Math.Option.{Option, none, some}
 use Rattle.std.proofs.Common.{arith, eq-eqb, ne_eqb, eqb-true}
 use Rattle.std.proofs.lemmas.Bool.{not-false}
@@ -13,15 +13,14 @@ use Rattle.old_case.specs.Cases.{unusable_in}
 use Rattle.old_bytes.specs.Bytes.{old_of, misplaced}
 use Rattle.from_old.specs.declared.Refusal.{Refusal}
 use Rattle.from_old.specs.declared.Refusal.TheVariants.{Unwritten, Tag, Double}
-use Rattle.from_old.specs.declared.Reading.TheVariants.{Old, Unread}
 use Rattle.from_old.specs.Tests.{reading_tests}
 use Rattle.from_old.specs.Steps.{bytes_reading, reading_by, line_reading, UsableIfOld}
 
-pub other_length : (line : List ℕ) → (length line ≡ 116 → ⊥) → line_reading line ≡ Unread (Unwritten (Faulty Length))
+pub other_length : (line : List ℕ) → (length line ≡ 116 → ⊥) → line_reading line ≡ Err (Unwritten (Faulty Length))
 unfolding line_reading reading_tests first_of
 other_length line h = simp (ne_eqb (length line) 116 h)
 
-pub other_character : (line : List ℕ) → length line ≡ 116 → all_digits line ≡ false → line_reading line ≡ Unread (Unwritten (Faulty Digit))
+pub other_character : (line : List ℕ) → length line ≡ 116 → all_digits line ≡ false → line_reading line ≡ Err (Unwritten (Faulty Digit))
 unfolding line_reading reading_tests first_of
 other_character line h d = simp (eq-eqb (length line) 116 h, d)
 
@@ -29,7 +28,7 @@ pub by_bytes : (line : List ℕ) → length line ≡ 116 → all_digits line ≡
 unfolding line_reading reading_tests first_of
 by_bytes line h d = simp (eq-eqb (length line) 116 h, d) (go (misplaced (bytes_of line)) (unusable_in (old_of (bytes_of line))))
   where
-    go : (a b : Bool) → reading_by (cond a (some Tag) (cond b (some Double) none)) (old_of (bytes_of line)) ≡ cond a (Unread Tag) (cond b (Unread Double) (Old (old_of (bytes_of line))))
+    go : (a b : Bool) → reading_by (cond a (some Tag) (cond b (some Double) none)) (old_of (bytes_of line)) ≡ cond a (Err Tag) (cond b (Err Double) (Ok (old_of (bytes_of line))))
     go true b = refl
     go false true = refl
     go false false = refl
@@ -51,7 +50,7 @@ pub read_passes : (line : List ℕ) → Read line → first_of (reading_tests li
 unfolding reading_tests first_of
 read_passes line r = simp (eq-eqb (length line) 116 r.size, r.digits, r.tags, r.usable)
 
-pub old_by : (r : Option Refusal) (o p : OldCase) → reading_by r o ≡ Old p → (r ≡ none) × (p ≡ o)
+pub old_by : (r : Option Refusal) (o p : OldCase) → reading_by r o ≡ Ok p → (r ≡ none) × (p ≡ o)
 old_by none o p h = (refl, cc)
 old_by (some r) o p h = let z : ◌≡◌ {A = ℕ} 0 1 = cc in absurd (omega arith)
 

@@ -1,5 +1,5 @@
 -- The verdict on an old line, from what reading it gave, and what is known of an accepted one. Assumes nothing.
-use Rattle.std.specs.Prelude.{ℕ, ◌≤◌, true, false, List, [], ◌∷◌, length}
+use Rattle.std.specs.Prelude.{ℕ, ◌≤◌, true, false, List, [], ◌∷◌, length, Err, Ok}
 use Rattle.std.proofs.Math.Path.{◌≡◌, refl, sym, ap}
 use Rattle.std.proofs.Common.{◌∙◌, arith}
 use Rattle.std.proofs.Math.Option.{Option, none, some}
@@ -9,10 +9,9 @@ use Rattle.refusals.proofs.laws.Order.{or_else, first_append}
 use Rattle.hexadecimals.specs.Digits.{bytes_of}
 use Rattle.fields.specs.Bytes.{frame_bytes}
 use Rattle.fields.specs.laws.Back.{standard_length}
-use Rattle.limits.specs.declared.Checked.{Checked}
+use Rattle.limits.specs.Checked.{Checked}
 use Rattle.writable.specs.declared.Refusal as unwritten
-use Rattle.writable.specs.declared.Verdict as writable
-use Rattle.writable.specs.declared.Verdict.TheVariants as written
+use Rattle.writable.specs.Verdict as writable
 use Rattle.writable.specs.Verdicts as tests
 use Rattle.writable.specs.Writing.{with_text}
 use Rattle.writable.specs.Steps.{placed, Written}
@@ -24,10 +23,8 @@ use Rattle.old_case.specs.laws.Trip.{in_standard}
 use Rattle.old_bytes.specs.Bytes.{old_of}
 use Rattle.from_old.specs.declared.Refusal.{Refusal}
 use Rattle.from_old.specs.declared.Refusal.TheVariants.{Unwritten}
-use Rattle.from_old.specs.declared.Verdict.{Verdict}
-use Rattle.from_old.specs.declared.Verdict.TheVariants.{Accepted, Refused}
-use Rattle.from_old.specs.declared.Reading.{Reading}
-use Rattle.from_old.specs.declared.Reading.TheVariants.{Old}
+use Rattle.from_old.specs.Verdict.{Verdict}
+use Rattle.from_old.specs.Reading.{Reading}
 use Rattle.from_old.specs.Entry.{with_frame}
 use Rattle.from_old.specs.Tests.{reading_tests, whole_tests, line_tests, verdict_by, line_verdict}
 use Rattle.from_old.specs.Steps.{reading_by, line_reading, wholes_checked, held_by, judged, Entered}
@@ -39,13 +36,13 @@ held_verdict [] c = refl
 held_verdict ((r when true) ∷ later) c = refl
 held_verdict ((r when false) ∷ later) c = held_verdict later c
 
-held_accepted : (v : writable.Verdict) {c : Case} → held_by v ≡ Accepted c → v ≡ written.Accepted c
-held_accepted (written.Accepted d) {c} h = let e : d ≡ c = cc in ap {B = writable.Verdict} written.Accepted e
-held_accepted (written.Refused r) h = let z : ◌≡◌ {A = ℕ} 0 1 = cc in absurd (omega arith)
+held_accepted : (v : writable.Verdict) {c : Case} → held_by v ≡ Ok c → v ≡ Ok c
+held_accepted (Ok d) {c} h = let e : d ≡ c = cc in ap {B = writable.Verdict} Ok e
+held_accepted (Err r) h = let z : ◌≡◌ {A = ℕ} 0 1 = cc in absurd (omega arith)
 
 -- what was written of its whole numbers is what an old line asks for
 pub entered : {r : Reading} {o : OldCase} {s : Checked} {w : writable.Verdict} {v : Verdict} {before after : List ℕ}
-    → r ≡ Old o
+    → r ≡ Ok o
     → s ≡ wholes_checked o
     → Written frame_bytes s before w after
     → v ≡ held_by w
@@ -61,8 +58,8 @@ entered {r} {o} {s} {w} {v} {before} e f x h =
     }
   where
     same : (q : writable.Verdict) → with_text frame_bytes q before ≡ with_frame (held_by q) before
-    same (written.Accepted c) = refl
-    same (written.Refused u) = refl
+    same (Ok c) = refl
+    same (Err u) = refl
 
 -- an accepted line: the case is that of its whole numbers, which pass tests 3 to 6, and its frame has room
 pub record LineTaken (line : List ℕ) (room : ℕ) (c : Case) : Type 0 where
@@ -87,18 +84,18 @@ module _ (line : List ℕ) (room : ℕ) where
       go none = ap held_by (space_last (whole_tests o) (λ (c : Case). 22) room (case_of o)) ∙ sym (held_verdict last (case_of o))
       go (some r) = refl
 
-  pub line_accepted : (c : Case) → line_verdict line room ≡ Accepted c → LineTaken line room c
+  pub line_accepted : (c : Case) → line_verdict line room ≡ Ok c → LineTaken line room c
   unfolding line_reading
   line_accepted c h = go (first_of (reading_tests line)) refl (line_judged ∙ h)
     where
-      go : (r : Option Refusal) → first_of (reading_tests line) ≡ r → judged (reading_by r o) room ≡ Accepted c → LineTaken line room c
+      go : (r : Option Refusal) → first_of (reading_tests line) ≡ r → judged (reading_by r o) room ≡ Ok c → LineTaken line room c
       go none e j =
           let a = accepted (whole_tests o) 22 room (case_of o) (sym (space_last (whole_tests o) (λ (c : Case). 22) room (case_of o)) ∙ held_accepted (placed (wholes_checked o) (λ (c : Case). 22) room) j) in
           record { read = line_read_lem line e; same = a.0; sound = a.1; room_for = a.2 }
       go (some r) e j = let z : ◌≡◌ {A = ℕ} 0 1 = cc in absurd (omega arith)
 
   -- and such a line is accepted
-  pub line_accepts : Read line → first_of (whole_tests o) ≡ none → 22 ≤ room → line_verdict line room ≡ Accepted (case_of o)
+  pub line_accepts : Read line → first_of (whole_tests o) ≡ none → 22 ≤ room → line_verdict line room ≡ Ok (case_of o)
   unfolding line_reading
   line_accepts r h l =
       sym line_judged

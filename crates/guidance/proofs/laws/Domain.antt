@@ -1,5 +1,5 @@
 -- The domain of accepted cases: bounds of E and E/P0, and Rx between its thresholds, in the order of fractions. Assumes nothing.
-use Rattle.std.specs.Prelude.{ℕ, suc, ◌*◌, ◌^◌, ◌≤◌, ◌<◌, ◌≡◌, Bool, true, false, ◌&&◌, cond, ltb}
+use Rattle.std.specs.Prelude.{ℕ, zero, suc, ◌*◌, ◌^◌, ◌≤◌, ◌<◌, ◌≡◌, Bool, true, false, ◌&&◌, cond, eqb, ltb}
 use Rattle.std.proofs.Math.Nat.{mul-pos, mul-le-mul}
 use Rattle.std.proofs.Common.{mul-le-mul_right, arith, lt-ltb, le-ltb}
 use Rattle.std.proofs.Math.Decide.{dec_le}
@@ -10,13 +10,24 @@ use Rattle.guidance.specs.Clouds.{over, heterogeneous, deflagrates, energy}
 use Rattle.guidance.specs.Distances.{metres, cubed, nearer, farther, cube02, cube025, cube034, cube24}
 use Rattle.guidance.specs.AirPressure.{air_of}
 use Rattle.guidance.specs.Cases.{Air, Fields, Accepted}
-use Rattle.guidance.specs.CloudWords.{Heated, reduction, joules_of, parts_of}
+use Rattle.guidance.specs.declared.Cloud.{Cloud}
+use Rattle.guidance.specs.Substances.{heat_of}
+use Rattle.guidance.specs.CloudWords.{Heated, Placed, reduction, joules_of, parts_of}
 use Rattle.guidance.proofs.laws.Limits.{placed_most, joules_least, parts_least, parts_most}
 use Rattle.guidance.proofs.laws.Energies.{energy_is}
 use Rattle.guidance.proofs.laws.Order.{least_of}
 
 pub heated : {air : ℕ} {c : Case} → Accepted air c → Heated c
 heated a = record { fields = a.fields; heat = a.heat }
+
+-- a cloud that has joules is of a case that has a heat
+pub heated_placed : {c : Case} {k : Cloud} {air : ℕ} → Placed c k air → Heated c
+unfolding joules_of
+heated_placed {c} {k} h = record { fields = h.fields; heat = go (heat_of c.substance c.heat) (omega (arith, h.cloud.joules, h.cloud.joules_is)) }
+  where
+    go : (n : ℕ) → 1 ≤ c.mass * n * cond (eqb c.placement 1) 2 1 * cond (ltb c.stoichiometric c.mean) c.stoichiometric 1 → 0 < n
+    go zero l = absurd (omega arith)
+    go (suc n) l = omega arith
 
 pub accepted : {air : ℕ} {c : Case} → Heated c → farther cube24 air c ≡ false → Accepted air c
 accepted h w = record { fields = h.fields; heat = h.heat; within = w }

@@ -6,6 +6,7 @@ use Rattle.std.proofs.Math.Nat.{mul-le-mul, mul-pos}
 use Rattle.std.proofs.Math.Decide.{dec_le}
 use native.Mathlib.Omega.{arith}
 use Rattle.std.proofs.Math.ListN.{get_or-eq_default}
+use Rattle.std.proofs.lemmas.Bool.Decides.{nat_tests}
 use Rattle.guidance.specs.declared.Case.{Case}
 use Rattle.guidance.specs.Substances.{betas, beta_of, class_of, heat_of}
 use Rattle.guidance.specs.declared.Cloud.{Cloud}
@@ -107,9 +108,12 @@ module _ (c : Case) (f : Fields c) where
   pub placed_most : c.mass * heat_of c.substance c.heat * ground ≤ 300000000000000
   placed_most = omega (arith, mul-le-mul released_most ground_most)
 
+  pub factors_most : c.mass * heat_of c.substance c.heat * ground * lean ≤ 15000000000000000000
+  factors_most = omega (arith, mul-le-mul placed_most lean_most)
+
   pub joules_most : joules_of c ≤ 15000000000000000000
   unfolding joules_of
-  joules_most = omega (arith, mul-le-mul placed_most lean_most)
+  joules_most = factors_most
 
   pub joules_least : 0 < heat_of c.substance c.heat → 1 ≤ joules_of c
   unfolding joules_of
@@ -131,3 +135,9 @@ module _ {c : Case} {k : Cloud} (h : CloudOf c k) where
 
   pub burns : 2 ≤ k.range → deflagrates c ≡ true
   burns l = lt-ltb 1 (range_of c) (omega (arith, h.range, l))
+
+-- What heat and energy are worked by
+
+pub ruleset heats = (beta_most, heat_given, heat_table)
+
+pub ruleset energies = (nat_tests, released_most, placed_most)

@@ -1,30 +1,16 @@
--- `hexadecimals::spell` meets its contract: a line of another length is refused, and the digits are worked in a part of the array. Assumes nothing.
-use mathlib.Core.Path.{sym}
-use native.Mathlib.Omega.{arith}
-use lib.Seq.{length-take-le}
-use Rattle.hexadecimals.specs.laws.Spelling.{other_length}
+-- `hexadecimals::spell` meets its contract: what is read is copied where all are digits. Assumes nothing.
+use Rattle.std.proofs.Common.{sym, ◌∙◌, true≢false}
+use Rattle.hexadecimals.specs.laws.Spelling.{of_length, other_length, by_answer}
 use Rattle.hexadecimals.proofs.spell.Goals as goal
-
-pub overflow_mul-s : goal.overflow_mul-s
-overflow_mul-s c =
-    omega arith
 
 pub returns-then-line-s : goal.returns-then-line-s
 returns-then-line-s c =
-    other_length _ c.if-line-s.true
+    by_answer _ (other_length _ _ c.if-line-s.true) (λ h. absurd (true≢false (sym h))) (λ h i. c.args.s.now)
 
-pub slice_bounds-worth-end : goal.slice_bounds-worth-end
-slice_bounds-worth-end c =
-    omega arith
+pub returns-then-told : goal.returns-then-told
+returns-then-told c =
+    by_answer _ (c.read-told.ensures.told ∙ of_length _ _ c.if-line-s.false) (λ h. c.copy_from_slice.ensures.after ∙ c.read-told.ensures.bytes h) (λ h. absurd (true≢false (sym c.if-told.true ∙ h)))
 
-pub slice_bounds-spell_by-end : goal.slice_bounds-spell_by-end
-slice_bounds-spell_by-end c =
-    sym (length-take-le _ _ (omega arith))
-
-pub spell_by-requires : goal.spell_by-requires
-spell_by-requires c =
-    (length-take-le _ _ (omega arith), omega arith)
-
-pub returns : goal.returns
-returns c =
-    c.spell_by.ensures
+pub returns-else-told : goal.returns-else-told
+returns-else-told c =
+    by_answer _ (c.read-told.ensures.told ∙ of_length _ _ c.if-line-s.false) (λ h. absurd (true≢false (sym h ∙ c.if-told.false))) (λ h i. c.args.s.now)

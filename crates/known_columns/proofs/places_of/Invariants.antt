@@ -1,10 +1,6 @@
 -- `known_columns::places_of` is safe; what is left of the text falls with each pair of words. Assumes nothing.
-use Prim.Native.Nat.{◌-◌, ◌≤◌}
-use lib.ListN.{length}
+use Rattle.std.proofs.Common.{length}
 use Rattle.known_columns.proofs.places_of.Given as goal
 
-abbrev pub invariant-loop-at : goal.invariant-loop-at
-invariant-loop-at l = l.at ≤ length l.text
-
-abbrev pub decreases-loop-at : goal.decreases-loop-at
-decreases-loop-at l = length l.text - l.at
+abbrev pub decreases-loop-words : goal.decreases-loop-words
+decreases-loop-words l = length l.words.rest.now

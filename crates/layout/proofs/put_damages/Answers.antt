@@ -9,5 +9,5 @@ use Rattle.layout.proofs.put_damages.Goals as goal
 pub returns : goal.returns
 unfolding damage_bytes damage_of halves two
 returns c =
-    let first = c.put_damage.ensures in
-    and_then (and_then (and_then (and_then first c.put_damage-2.ensures refl) c.put_damage-3.ensures refl) c.put_damage-4.ensures refl) c.put_damage-5.ensures refl
+    let first = c.put_ends.ensures in
+    and_then (and_then (and_then (and_then first c.put_ends-2.ensures refl) c.put_ends-3.ensures refl) c.put_ends-4.ensures refl) c.put_ends-5.ensures refl

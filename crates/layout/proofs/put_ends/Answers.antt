@@ -1,11 +1,9 @@
--- `layout::put_ends` meets its contract: each part is stored after the one before. Assumes nothing.
-use borrow.Author.Rules.{rules}
-use Rattle.byte_numbers.specs.Numbers.{four}
-use Rattle.layout.specs.Bytes.{words}
+-- `layout::put_ends` meets its contract: the upper end is stored after the lower. Assumes nothing.
+use native.Mathlib.Omega.{arith}
+use Rattle.byte_numbers.proofs.Sizes.{last_length}
 use Rattle.byte_numbers.specs.laws.Storing.{and_then}
 use Rattle.layout.proofs.put_ends.Goals as goal
 
 pub returns : goal.returns
-unfolding words four
-returns c =
-    search (rules, and_then)
+returns g c =
+    and_then c.put.ensures c.put-2.ensures (omega (arith, last_length c.args.e.lower g.row.N c.requires.size))

@@ -6,4 +6,4 @@ use Rattle.lent_sheet.proofs.read.Goals as goal
 pub returns : goal.returns
 unfolding list_of
 returns c =
-    unpacked_list _ _ c.requires c.unpack-places.ensures
+    unpacked_list _ _ c.requires c.unpack.ensures

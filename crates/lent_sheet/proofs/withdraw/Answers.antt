@@ -1,20 +1,25 @@
 -- `lent_sheet::withdraw` meets its contract. Assumes nothing.
+use Rattle.std.proofs.Common.{rules, ◌≡◌, Result, Err}
 use mathlib.Core.Path.{ap}
-use Rattle.sheet.specs.declared.Found.{Found}
+use Rattle.guidance.specs.declared.Case.{Case}
+use Rattle.sheet.specs.declared.Vacancy.{Vacancy}
 use Rattle.sheet.specs.Operations.{finding, refusal}
+use Rattle.lent_sheet.specs.declared.Refusal.TheVariants.{Space, Vacant}
 use Rattle.lent_sheet.proofs.Settling.{short_withdraw, refused_call, accepted_call}
 use Rattle.lent_sheet.proofs.withdraw.Goals as goal
 
-pub returns-then-s-lt-SIZE : goal.returns-then-s-lt-SIZE
-returns-then-s-lt-SIZE c =
-    short_withdraw _ _ c.if-s-lt-SIZE.true
+pub returns-in_err-enough : goal.returns-in_err-enough
+returns-in_err-enough c =
+    let refused : c.from_residual.result ≡ Err Space = search rules in
+    rw refused (short_withdraw _ _ c.in_err-enough.ensures.1)
 
-pub returns-in-Refused : goal.returns-in-Refused
-returns-in-Refused c =
-    rw c.number_of_vacancy.ensures
-    (refused_call _ _ _ _ _ c.if-s-lt-SIZE.false c.read-before.ensures c.withdraw-withdrawn.ensures _ (ap (λ (q : Found). refusal (finding q)) c.in-Refused.is))
+pub returns-in_err-withdraw : goal.returns-in_err-withdraw
+returns-in_err-withdraw c =
+    let refused : c.from_residual-in_err-withdraw.result ≡ Err Vacant = search rules in
+    rw refused
+    (refused_call _ _ _ _ _ c.in_ok-enough.ensures c.read-sheet.ensures c.withdraw.ensures _ (ap (λ (q : Result Case Vacancy). refusal (finding q)) c.in_err-withdraw.was))
 
-pub returns-in-Held : goal.returns-in-Held
-returns-in-Held c =
-    accepted_call _ _ _ _ _ c.if-s-lt-SIZE.false c.read-before.ensures c.withdraw-withdrawn.ensures (ap (λ (q : Found). refusal (finding q)) c.in-Held.is) _
+pub returns : goal.returns
+returns c =
+    accepted_call _ _ _ _ _ c.in_ok-enough.ensures c.read-sheet.ensures c.withdraw.ensures (ap (λ (q : Result Case Vacancy). refusal (finding q)) c.in_ok-withdraw.was) _
     c.pack.ensures

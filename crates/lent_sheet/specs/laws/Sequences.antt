@@ -1,9 +1,10 @@
 -- From zero bytes, any sequence of calls does as on a plain list with holes, what is told included. Assumes nothing.
-use Rattle.std.specs.Prelude.{ℕ, zero, suc, ◌+◌, ◌≤◌, ◌≡◌, refl, length, replicate}
+use Rattle.std.specs.Prelude.{ℕ, zero, suc, ◌+◌, ◌≤◌, ◌≡◌, refl, length, replicate, Option, None, Some}
 use Rattle.std.proofs.Common.{sym, ◌∙◌, arith, length-append}
 use Rattle.std.proofs.Math.Path.{ap, ap₂}
 use mathlib.Core.List.{List, [], ◌∷◌, ◌++◌}
-use Rattle.std.proofs.Math.Option.{Option, none, some, none-ne-some}
+use Rattle.std.proofs.Math.Option as maybe
+use Rattle.std.proofs.Math.Option.{none, some, none-ne-some}
 use Rattle.std.proofs.Math.Seq.{length-sets}
 use Rattle.refusals.specs.Order.{first_of}
 use Rattle.refusals.proofs.laws.Numbers.{no_fault}
@@ -28,14 +29,14 @@ use Rattle.lent_sheet.specs.laws.Judged.{judged, show_judged, total_judged}
 
 -- a refused operation leaves the list
 
-refused_adding : (o : Option Refusal) (xs : List (Option Held)) (h : Held) (n : ℕ) → refusal (adding o xs h).told ≡ some n → (adding o xs h).list ≡ xs
+refused_adding : (o : maybe.Option Refusal) (xs : List (Option Held)) (h : Held) (n : ℕ) → refusal (adding o xs h).told ≡ some n → (adding o xs h).list ≡ xs
 unfolding adding
 refused_adding none xs h n e = absurd (none-ne-some n e)
 refused_adding (some r) xs h n e = refl
 
 refused_without : (x : Option Held) (xs : List (Option Held)) (k n : ℕ) → refusal (finding (found_in x)) ≡ some n → without x xs k ≡ xs
-refused_without none xs k n e = refl
-refused_without (some h) xs k n e = absurd (none-ne-some n e)
+refused_without None xs k n e = refl
+refused_without (Some h) xs k n e = absurd (none-ne-some n e)
 
 refused_same : (xs : List (Option Held)) (c : Change) (n : ℕ) → refusal (act xs (operation c)).told ≡ some n → (act xs (operation c)).list ≡ xs
 unfolding act found
@@ -67,7 +68,7 @@ module _ (c : Change) (s : List ℕ) (n : ℕ) (u : List ℕ) (h : Sound s) (a :
   rightly : Each RightlyHeld xs
   rightly = rightly_act (lent s) (operation c) (λ e. end (first ∙ e)) h.cases
 
-  by_answer : (f : Option ℕ) → refusal (act (lent s) (operation c)).told ≡ f → u ≡ left f s xs → (lent u ≡ xs) × (size ≤ length u)
+  by_answer : (f : maybe.Option ℕ) → refusal (act (lent s) (operation c)).told ≡ f → u ≡ left f s xs → (lent u ≡ xs) × (size ≤ length u)
   by_answer none e w = (
     ap lent w ∙ lent_packed xs s h.room (plain_act (lent s) (operation c) (lent_plain s h.room)) (each_weaker fits xs rightly),
     omega (arith, ap length w, length-sets s 0 (sheet_bytes xs), h.room),
@@ -76,7 +77,7 @@ module _ (c : Change) (s : List ℕ) (n : ℕ) (u : List ℕ) (h : Sound s) (a :
 
   changed : Changed c s n u
   changed =
-      let after = by_answer (refusal (act (lent s) (operation c)).told) refl (a.bytes ∙ ap (λ (f : Option ℕ). left f s xs) first) in
+      let after = by_answer (refusal (act (lent s) (operation c)).told) refl (a.bytes ∙ ap (λ (f : maybe.Option ℕ). left f s xs) first) in
       record {
         sound = record { room = after.1; cases = rw after.0 rightly };
         list = after.0;
@@ -94,7 +95,7 @@ never_0 (Faulty f) = no_fault 0 refl f
 never_0 Beyond = λ e. omega arith
 never_0 Full = λ e. omega arith
 
-add_reply : (o : Option Refusal) (xs : List (Option Held)) (h : Held) (n place k : ℕ) → n ≡ code (refusal (adding o xs h).told)
+add_reply : (o : maybe.Option Refusal) (xs : List (Option Held)) (h : Held) (n place k : ℕ) → n ≡ code (refusal (adding o xs h).told)
     → k ≡ told (refusal (adding o xs h).told) place (length xs + 1)
     → reply n (placed k) ≡ telling (adding o xs h).told
 unfolding adding
@@ -102,13 +103,13 @@ add_reply none xs h n place k e f = rw (e, f) refl
 add_reply (some r) xs h n place k e f = refused_reply n (refusals.number r) (placed k) e (never_0 r)
 
 withdraw_reply : (x : Option Held) (n : ℕ) → n ≡ code (refusal (finding (found_in x))) → reply n done ≡ telling (finding (found_in x))
-withdraw_reply none n e = rw e refl
-withdraw_reply (some c) n e = rw e refl
+withdraw_reply None n e = rw e refl
+withdraw_reply (Some c) n e = rw e refl
 
 show_reply : (x : Option Held) (n : ℕ) (after : List ℕ) → n ≡ code (refusal (finding (found_in x))) → after ≡ shown (refusal (finding (found_in x))) blank x
     → reply n (shows after) ≡ showing (found_in x)
-show_reply none n after e w = rw e refl
-show_reply (some c) n after e w = rw e (ap shows w)
+show_reply None n after e w = rw e refl
+show_reply (Some c) n after e w = rw e (ap shows w)
 
 -- any sequence
 record Follows (s : List ℕ) (operations : List Operation) (replies : List Reply) (t : List ℕ) : Type 0 where
@@ -131,7 +132,7 @@ unfolding after replied reply_of act found
 run_sound ends h = record { sound = h; list = refl; told = refl }
 run_sound (adds {s = s} {frame = frame} {place = place} {n = n} {u = u} {k = k} a run) h =
     let d = changed (add frame a.upper) s n u h a.acts a.end in
-    let place_is = a.place_is ∙ ap (λ (f : Option ℕ). told f place (length (lent s) + 1)) (judged (add frame a.upper) s h.room) in
+    let place_is = a.place_is ∙ ap (λ (f : maybe.Option ℕ). told f place (length (lent s) + 1)) (judged (add frame a.upper) s h.room) in
     goes_on d.list (add_reply _ (lent s) (held_of (fields_of frame) a.upper) n place k d.number place_is) (run_sound run d.sound)
 run_sound (withdraws {s = s} {k = k} {n = n} {u = u} a run) h =
     let d = changed (withdraw k) s n u h a (λ z. tt) in
@@ -142,7 +143,7 @@ run_sound (closes {s = s} {n = n} {u = u} a run) h =
 run_sound (reads {s = s} {k = k} {n = n} {after = read} a run) h =
     let first = show_judged k s (length blank) h.room (omega arith) in
     goes_on refl
-    (show_reply (at (lent s) k) n read (a.returned ∙ ap code first) (a.area ∙ ap (λ (f : Option ℕ). shown f blank (at (lent s) k)) first))
+    (show_reply (at (lent s) k) n read (a.returned ∙ ap code first) (a.area ∙ ap (λ (f : maybe.Option ℕ). shown f blank (at (lent s) k)) first))
     (run_sound run h)
 
 -- from the empty sheet, whatever stands behind its bytes

@@ -7,4 +7,4 @@ use Rattle.limits.proofs.check.Goals as goal
 
 pub returns : goal.returns
 returns c =
-    c.check_heat.ensures ∙ ap (heat_checked false) c.check_values-s.ensures ∙ case_checked_lem _
+    c.check_heat.ensures ∙ ap (heat_checked false) c.check_values.ensures ∙ case_checked_lem _

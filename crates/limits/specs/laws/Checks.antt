@@ -1,5 +1,5 @@
 -- What is known of a case that passed its tests. Assumes nothing.
-use Rattle.std.specs.Prelude.{ℕ, ◌≡◌, refl, Bool, true, false, cond, [], ◌∷◌, ◌++◌}
+use Rattle.std.specs.Prelude.{ℕ, ◌≡◌, refl, Bool, true, false, cond, [], ◌∷◌, ◌++◌, Err, Ok}
 use Rattle.std.proofs.Common.{sym, ap, ◌∙◌, true≢false, arith}
 use Rattle.std.proofs.Math.Option.{Option, none, some}
 use Rattle.guidance.specs.declared.Case.{Case}
@@ -8,13 +8,12 @@ use Rattle.refusals.specs.declared.Fault.{Fault}
 use Rattle.refusals.specs.declared.Fault.TheVariants.{Quantity, Heat}
 use Rattle.refusals.specs.Order.{◌when◌, first_of}
 use Rattle.refusals.proofs.laws.Order.{or_else, neither_found, first_append, none_first, passed}
-use Rattle.limits.specs.declared.Checked.TheVariants.{Sound, Unsound}
 use Rattle.limits.specs.Tests.{heat_missing, value_tests, heat_tests, field_tests}
 use Rattle.limits.specs.Checks.{checked_by, values_checked, heat_checked, case_checked}
 use Rattle.limits.specs.laws.Fields.{heated}
 
 -- none applied, and it is the case that was given
-pub sound_by : (o : Option Fault) (d c : Case) → checked_by o d ≡ Sound c → (o ≡ none) × (c ≡ d)
+pub sound_by : (o : Option Fault) (d c : Case) → checked_by o d ≡ Ok c → (o ≡ none) × (c ≡ d)
 sound_by none d c h = (refl, cc)
 sound_by (some f) d c h = let z : ◌≡◌ {A = ℕ} 0 1 = cc in absurd (omega arith)
 
@@ -27,7 +26,7 @@ pub heat_last : (lost : Bool) (c : Case) → heat_checked lost (values_checked c
 unfolding first_of
 heat_last lost c = go (first_of (value_tests c)) ∙ sym (ap (λ (o : Option Fault). checked_by o c) (first_append (value_tests c) (heat_tests lost c)))
   where
-    either : (a b : Bool) → cond a (Unsound Quantity) (cond b (Unsound Heat) (Sound c)) ≡ checked_by (cond a (some Quantity) (cond b (some Heat) none)) c
+    either : (a b : Bool) → cond a (Err Quantity) (cond b (Err Heat) (Ok c)) ≡ checked_by (cond a (some Quantity) (cond b (some Heat) none)) c
     either true b = refl
     either false true = refl
     either false false = refl

@@ -7,15 +7,15 @@ use Rattle.linked.proofs.figure_alone.Goals as goal
 
 pub ends_of-e-requires : goal.ends_of-e-requires
 ends_of-e-requires c =
-    taken c.args.frame.now c.decide_frame-v.ensures c.in-Accepted.is
+    taken c.args.frame.now c.decide_frame.ensures c.in-Ok.is
 
-pub returns-in-Refused : goal.returns-in-Refused
-returns-in-Refused c =
+pub returns-in-Err : goal.returns-in-Err
+returns-in-Err c =
     let x = c.args in
-    kept x.frame.now c.decide_frame-v.ensures {x = figure_of x.figure} c.in-Refused.is c.number_of.ensures
+    kept x.frame.now c.decide_frame.ensures {x = figure_of x.figure} c.in-Err.is c.number.ensures
 
-pub returns-in-Accepted : goal.returns-in-Accepted
-returns-in-Accepted c =
+pub returns-in-Ok : goal.returns-in-Ok
+returns-in-Ok c =
     let x = c.args in
     let ended = c.ends_of-e.ensures in
-    given x.frame.now c.decide_frame-v.ensures c.in-Accepted.is {x = figure_of x.figure} ended
+    given x.frame.now c.decide_frame.ensures c.in-Ok.is {x = figure_of x.figure} ended

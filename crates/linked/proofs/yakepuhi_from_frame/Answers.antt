@@ -4,4 +4,4 @@ use Rattle.linked.proofs.yakepuhi_from_frame.Goals as goal
 
 pub returns : goal.returns
 returns c =
-    let e = c.from_frame-v.ensures in entered e.verdict e.area c.code_of.ensures
+    let e = c.from_frame.ensures in entered e.verdict e.area c.code_of.ensures

@@ -4,4 +4,4 @@ use Rattle.linked.proofs.yakepuhi_from_line.Goals as goal
 
 pub returns : goal.returns
 returns c =
-    let e = c.from_line-v.ensures in entered e.verdict e.area c.code_of.ensures
+    let e = c.from_line.ensures in entered e.verdict e.area c.code_of.ensures

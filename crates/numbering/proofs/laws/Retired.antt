@@ -8,7 +8,6 @@ use Rattle.writable.specs.declared.Refusal.TheVariants as writings
 use Rattle.from_old.specs.declared.Refusal.TheVariants as old_lines
 use Rattle.to_old.specs.declared.Refusal.TheVariants as ways_back
 use Rattle.sheet.specs.declared.Refusal.TheVariants as sheets
-use Rattle.sheet.specs.declared.Vacancy.TheVariants.{Vacant}
 use Rattle.numbering.specs.Entries.{Refused, number}
 use Rattle.numbering.specs.Entries.Refused.{answer, ring, writing, old_line, way_back, adding, place}
 
@@ -32,4 +31,4 @@ retired (way_back ways_back.Space) = λ e. omega arith
 retired (adding (sheets.Faulty f)) = no_fault 4 refl f
 retired (adding sheets.Beyond) = λ e. omega arith
 retired (adding sheets.Full) = λ e. omega arith
-retired (place Vacant) = λ e. omega arith
+retired (place v) = λ e. omega arith

@@ -1,26 +1,20 @@
 -- So no function for C returns 4: each returns 0 or a refusal's number. Assumes nothing.
-use Rattle.std.specs.Prelude.{ℕ, ◌≡◌, refl, false, List, [], ◌∷◌, length}
+use Rattle.std.specs.Prelude.{ℕ, ◌≡◌, refl, false, List, [], ◌∷◌, length, Err, Ok}
 use Rattle.std.proofs.Common.{sym, ap, ◌∙◌, arith}
 use Rattle.std.proofs.Math.Option.{Option, none, some, some-injective}
 use Rattle.exact.specs.Formula.{Formula}
 use Rattle.guidance.specs.declared.Case.{Case}
-use Rattle.frame.specs.declared.Verdict.{Verdict}
-use Rattle.frame.specs.declared.Verdict.TheVariants.{Accepted, Refused}
+use Rattle.frame.specs.Verdict.{Verdict}
 use Rattle.frame.specs.Refusals.{code}
 use Rattle.frame.specs.Verdicts.{answer_length, frame_verdict}
-use Rattle.ring.specs.declared.Answer as answers
-use Rattle.ring.specs.declared.Answer.TheVariants as rings
-use Rattle.rules.specs.declared.Answer as rules
-use Rattle.rules.specs.declared.Answer.TheVariants as reason
-use Rattle.writable.specs.declared.Verdict as verdicts
-use Rattle.writable.specs.declared.Verdict.TheVariants as written
+use Rattle.ring.specs.Answer as answers
+use Rattle.rules.specs.Answer as rules
+use Rattle.writable.specs.Verdict as verdicts
 use Rattle.writable.specs.Refusals as writings
-use Rattle.from_old.specs.declared.Verdict as old_verdicts
-use Rattle.from_old.specs.declared.Verdict.TheVariants as ways_in
+use Rattle.from_old.specs.Verdict as old_verdicts
 use Rattle.from_old.specs.Refusals as old_lines
 use Rattle.from_old.specs.Tests.{line_verdict}
-use Rattle.to_old.specs.declared.Verdict as back_verdicts
-use Rattle.to_old.specs.declared.Verdict.TheVariants as back
+use Rattle.to_old.specs.Verdict as back_verdicts
 use Rattle.to_old.specs.Refusals as ways_back
 use Rattle.to_old.specs.Tests as old_tests
 use Rattle.refusals.specs.Order.{Test, ◌when◌, first_of}
@@ -41,8 +35,8 @@ use Rattle.numbering.specs.Entries.Refused.{answer, ring, writing, old_line, way
 use Rattle.numbering.proofs.laws.Retired.{retired}
 
 code_retired : (v : Verdict) → code v ≡ 4 → ⊥
-code_retired (Accepted c) = λ e. omega arith
-code_retired (Refused r) = retired (answer r)
+code_retired (Ok c) = λ e. omega arith
+code_retired (Err r) = retired (answer r)
 
 -- a case's answer
 pub entered_not_4 : {v : Verdict} {n : ℕ} {before after : List ℕ} → Entered v n before after → n ≡ 4 → ⊥
@@ -54,16 +48,16 @@ figure_not_4 {frame = frame} e h = code_retired (frame_verdict frame answer_leng
 
 -- a ring
 given_not_4 : (a : answers.Answer) (inner outer n i o : ℕ) → Given a inner outer n i o → n ≡ 4 → ⊥
-given_not_4 (rings.Ring near far) inner outer n i o g h = let z = sym g.number ∙ h in omega arith
-given_not_4 (rings.Refused r) inner outer n i o g h = retired (ring r) (sym g.number ∙ h)
+given_not_4 (Ok r) inner outer n i o g h = let z = sym g.number ∙ h in omega arith
+given_not_4 (Err r) inner outer n i o g h = retired (ring r) (sym g.number ∙ h)
 
 pub ring_not_4 : {Fits : answers.Answer → Type 0} {inner outer n i o : ℕ} → Answered Fits inner outer n i o → n ≡ 4 → ⊥
 ring_not_4 a h = given_not_4 a.answer _ _ _ _ _ a.given h
 
 -- the rules
 reason_not_4 : (a : rules.Answer) (pressure impulse n p i : ℕ) → reasons.Given a pressure impulse n p i → n ≡ 4 → ⊥
-reason_not_4 (reason.Named r) pressure impulse n p i g h = let z = sym g.number ∙ h in omega arith
-reason_not_4 (reason.Refused q) pressure impulse n p i g h = retired (answer q) (sym g.number ∙ h)
+reason_not_4 (Ok r) pressure impulse n p i g h = let z = sym g.number ∙ h in omega arith
+reason_not_4 (Err q) pressure impulse n p i g h = retired (answer q) (sym g.number ∙ h)
 
 pub rules_not_4 : {frame : List ℕ} {pressure impulse n p i : ℕ} → reasons.Reasoned frame pressure impulse n p i → n ≡ 4 → ⊥
 rules_not_4 a h = reason_not_4 a.answer _ _ _ _ _ a.given h
@@ -73,20 +67,20 @@ pub came_in_not_4 : {line before after : List ℕ} {n : ℕ} → CameIn line bef
 came_in_not_4 {line} {before} e h = go (line_verdict line (length before)) (sym e.returned ∙ h)
   where
     go : (v : old_verdicts.Verdict) → old_lines.code v ≡ 4 → ⊥
-    go (ways_in.Accepted c) = λ z. omega arith
-    go (ways_in.Refused r) = retired (old_line r)
+    go (Ok c) = λ z. omega arith
+    go (Err r) = retired (old_line r)
 
 pub went_back_not_4 : {frame before after : List ℕ} {n : ℕ} → WentBack frame before n after → n ≡ 4 → ⊥
 went_back_not_4 {frame} {before} e h = go (old_tests.frame_verdict frame (length before)) (sym e.returned ∙ h)
   where
     go : (v : back_verdicts.Verdict) → ways_back.code v ≡ 4 → ⊥
-    go (back.Accepted c) = λ z. omega arith
-    go (back.Refused r) = retired (way_back r)
+    go (Ok c) = λ z. omega arith
+    go (Err r) = retired (way_back r)
 
 -- a frame from fields, and a spelling
 written_retired : (v : verdicts.Verdict) → writings.code v ≡ 4 → ⊥
-written_retired (written.Accepted c) = λ z. omega arith
-written_retired (written.Refused r) = retired (writing r)
+written_retired (Ok c) = λ z. omega arith
+written_retired (Err r) = retired (writing r)
 
 pub wrote_not_4 : {text : Case → List ℕ} {due : verdicts.Verdict} {n : ℕ} {before after : List ℕ} → WroteCase text due before n after → n ≡ 4 → ⊥
 wrote_not_4 {due = due} e h = written_retired due (sym e.returned ∙ h)

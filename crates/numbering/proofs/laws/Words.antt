@@ -10,7 +10,6 @@ use Rattle.writable.specs.declared.Refusal.TheVariants as writings
 use Rattle.from_old.specs.declared.Refusal.TheVariants as old_lines
 use Rattle.to_old.specs.declared.Refusal.TheVariants as ways_back
 use Rattle.sheet.specs.declared.Refusal.TheVariants as sheets
-use Rattle.sheet.specs.declared.Vacancy.TheVariants.{Vacant}
 use Rattle.numbering.specs.Entries.{Refused, number, word}
 use Rattle.numbering.specs.Entries.Refused.{answer, ring, writing, old_line, way_back, adding, place}
 use Rattle.numbering.specs.laws.Words.{words}
@@ -45,7 +44,7 @@ listed (way_back ways_back.Space) = refl
 listed (adding (sheets.Faulty f)) = fault_listed f
 listed (adding sheets.Beyond) = refl
 listed (adding sheets.Full) = refl
-listed (place Vacant) = refl
+listed (place v) = refl
 
 pub one_word : (r q : Refused) → number r ≡ number q → word r ≡ word q
 one_word r q e = listed r ∙ ap (λ (n : ℕ). get_or words n []) e ∙ sym (listed q)

@@ -7,7 +7,6 @@ use Rattle.ring.specs.declared.Refusal.TheVariants as rings
 use Rattle.from_old.specs.declared.Refusal.TheVariants as old_lines
 use Rattle.to_old.specs.declared.Refusal.TheVariants as ways_back
 use Rattle.sheet.specs.declared.Refusal.TheVariants as sheets
-use Rattle.sheet.specs.declared.Vacancy.TheVariants.{Vacant}
 use Rattle.numbering.specs.Entries.{word}
 use Rattle.numbering.specs.Entries.Refused.{answer, ring, old_line, way_back, adding, place}
 
@@ -32,6 +31,6 @@ words =
     ∷ word (old_line old_lines.Tag)
     ∷ word (old_line old_lines.Double)
     ∷ word (adding sheets.Full)
-    ∷ word (place Vacant)
+    ∷ word (place (record {}))
     ∷ word (way_back ways_back.Air)
     ∷ []

@@ -5,4 +5,4 @@ use Rattle.old_bytes.proofs.double_at.Goals as goal
 
 pub returns : goal.returns
 returns c =
-    c.of_bits.ensures ∙ ap (of_bits binary64) c.eight_at.ensures
+    c.of_bits.ensures ∙ ap (of_bits binary64) c.number_at.ensures.number

@@ -11,12 +11,12 @@ use Rattle.old_case.specs.Fields.{value_of}
 use Rattle.old_bytes.specs.Bytes.{field_bytes}
 use Rattle.old_bytes.proofs.put_field.Goals as goal
 
-pub float_to_bits-bits : goal.float_to_bits-bits
-float_to_bits-bits c =
-    subst (λ (x : Float). T (not (is_nan x))) (sym c.value_of-bits.ensures) (no_nan (value_of c.args.f) (usable_finite (value_of c.args.f) c.requires.1))
+pub float_to_bits-value : goal.float_to_bits-value
+float_to_bits-value c =
+    subst (λ (x : Float). T (not (is_nan x))) (sym c.value.ensures) (no_nan (value_of c.args.f) (usable_finite (value_of c.args.f) c.requires.1))
 
 pub returns : goal.returns
 unfolding field_bytes one
 returns c =
-    stored_as (and_then c.put_one.ensures c.put_eight.ensures refl)
-    (λ k. one (c.tag_of-tag.ensures k) ++ eight (to_bits binary64 (c.value_of-bits.ensures k)))
+    stored_as (and_then c.put.ensures c.put-2.ensures refl)
+    (λ k. one (c.tag.ensures k) ++ eight (to_bits binary64 (c.value.ensures k)))

@@ -7,10 +7,10 @@ pub returns : goal.returns
 unfolding old_of
 returns c =
     rw (
-      c.one_at.ensures.0,
-      c.one_at-2.ensures.0,
-      c.one_at-3.ensures.0,
-      c.one_at-4.ensures.0,
+      c.number_at.ensures.number,
+      c.number_at-2.ensures.number,
+      c.number_at-3.ensures.number,
+      c.number_at-4.ensures.number,
       c.double_at.ensures,
       c.double_at-2.ensures,
       c.double_at-3.ensures,

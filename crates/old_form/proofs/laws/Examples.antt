@@ -1,5 +1,5 @@
 -- Lines of the old form worked by hand: propane's, and its line changed so that one test or two apply. All by computation. Assumes nothing.
-use Rattle.std.specs.Prelude.{ℕ, ◌≡◌, refl, List, [], ◌∷◌, ◌++◌, replicate}
+use Rattle.std.specs.Prelude.{ℕ, ◌≡◌, refl, List, [], ◌∷◌, ◌++◌, replicate, Err, Ok}
 use Rattle.std.specs.Float.Ieee.{of_bits, to_bits, lt, of_int, round}
 use Rattle.refusals.specs.declared.Fault.TheVariants.{Length, Digit, Substance, Quantity, Heat}
 use Rattle.refusals.specs.Order.{first_of, held}
@@ -17,10 +17,8 @@ use Rattle.doubles.specs.Doubles.{unusable, rounded}
 use Rattle.old_case.specs.Cases.{unusable_in, case_of, lost_heat, old_case_of}
 use Rattle.old_bytes.specs.Bytes.{field_bytes, old_of, old_bytes, misplaced}
 use Rattle.from_old.specs.declared.Refusal.TheVariants.{Unwritten, Tag, Double}
-use Rattle.from_old.specs.declared.Verdict.TheVariants.{Accepted, Refused}
 use Rattle.from_old.specs.Tests.{reading_tests, whole_tests, line_tests, line_verdict}
 use Rattle.to_old.specs.declared.Refusal.TheVariants as returns
-use Rattle.to_old.specs.declared.Verdict.TheVariants as back
 use Rattle.to_old.specs.Tests.{last_tests, frame_verdict}
 use Rattle.to_old.specs.Entry.{old_line}
 
@@ -71,20 +69,20 @@ mountain_digits = 49 ∷ 70 ∷ 52 ∷ 48 ∷ []
 
 pub record Examples : Type 0 where
   pub given_back : old_line propane ≡ propane_line
-  pub taken_in : line_verdict propane_line 22 ≡ Accepted propane
+  pub taken_in : line_verdict propane_line 22 ≡ Ok propane
   pub same_line : changed 17 mass heat 5 ≡ propane_line
-  pub no_room : line_verdict propane_line 21 ≡ Refused (Unwritten Space)
-  pub empty_line : line_verdict [] 22 ≡ Refused (Unwritten (Faulty Length))
-  pub letters_G : line_verdict (replicate 116 71) 22 ≡ Refused (Unwritten (Faulty Digit))
-  pub lost_heat_lem : line_verdict (changed 17 mass little 5) 22 ≡ Refused (Unwritten (Faulty Quantity))
-  pub tag_before_double : line_verdict (changed 17 mass infinite 6) 22 ≡ Refused Tag
-  pub double_before_substance : line_verdict (changed 76 below heat 5) 22 ≡ Refused Double
-  pub substance_before_lost_heat : line_verdict (changed 76 mass little 5) 22 ≡ Refused (Unwritten (Faulty Substance))
+  pub no_room : line_verdict propane_line 21 ≡ Err (Unwritten Space)
+  pub empty_line : line_verdict [] 22 ≡ Err (Unwritten (Faulty Length))
+  pub letters_G : line_verdict (replicate 116 71) 22 ≡ Err (Unwritten (Faulty Digit))
+  pub lost_heat_lem : line_verdict (changed 17 mass little 5) 22 ≡ Err (Unwritten (Faulty Quantity))
+  pub tag_before_double : line_verdict (changed 17 mass infinite 6) 22 ≡ Err Tag
+  pub double_before_substance : line_verdict (changed 76 below heat 5) 22 ≡ Err Double
+  pub substance_before_lost_heat : line_verdict (changed 76 mass little 5) 22 ≡ Err (Unwritten (Faulty Substance))
   -- the way back of 24 bytes: 101,300 Pa written out goes, 80,000 Pa is 19, before 8 and after 6
-  pub standard_air : frame_verdict (bytes_of (longer standard_digits)) 116 ≡ back.Accepted propane
-  pub no_room_back : frame_verdict (bytes_of (longer standard_digits)) 115 ≡ back.Refused returns.Space
-  pub air_before_space : frame_verdict (bytes_of (longer mountain_digits)) 0 ≡ back.Refused returns.Air
-  pub heat_before_air : frame_verdict (bytes_of (third_line ++ mountain_digits)) 0 ≡ back.Refused (returns.Faulty Heat)
+  pub standard_air : frame_verdict (bytes_of (longer standard_digits)) 116 ≡ Ok propane
+  pub no_room_back : frame_verdict (bytes_of (longer standard_digits)) 115 ≡ Err returns.Space
+  pub air_before_space : frame_verdict (bytes_of (longer mountain_digits)) 0 ≡ Err returns.Air
+  pub heat_before_air : frame_verdict (bytes_of (third_line ++ mountain_digits)) 0 ≡ Err (returns.Faulty Heat)
 
 pub examples : Examples
 unfolding frame_verdict last_tests frame_tests field_tests air_in fields_of betas beta_of line_verdict line_tests reading_tests whole_tests writable_tests first_of held value_tests quantity_outside heat_missing digit_of all_digits bytes_of upper digits_of settings one four eight field_bytes old_of old_bytes misplaced unusable_in case_of lost_heat old_case_of unusable rounded of_bits to_bits lt of_int round

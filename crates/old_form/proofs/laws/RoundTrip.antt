@@ -1,5 +1,5 @@
 -- What holds of the two ways together. Assumes nothing.
-use Rattle.std.specs.Prelude.{ℕ, ◌≤◌, ◌≡◌, true, List, ◌++◌, length, take}
+use Rattle.std.specs.Prelude.{ℕ, ◌≤◌, ◌≡◌, true, List, ◌++◌, length, take, Ok}
 use Rattle.std.proofs.Common.{sym, ap, ◌∙◌, arith}
 use Rattle.std.proofs.Math.Path.{subst}
 use Rattle.std.proofs.Math.Option.{none}
@@ -24,8 +24,7 @@ use Rattle.old_case.specs.Exactly.{AllExactly}
 use Rattle.old_case.specs.laws.Fractions.{all_usable}
 use Rattle.old_bytes.specs.laws.Back.{old_length, old_bytes_lem, old_again, tags_in_place, bytes_again, bytes_fit}
 use Rattle.old_case.specs.laws.Trip.{in_standard, fitting, case_again, heat_kept, all_exactly, old_kept}
-use Rattle.from_old.specs.declared.Verdict.{Verdict}
-use Rattle.from_old.specs.declared.Verdict.TheVariants.{Accepted}
+use Rattle.from_old.specs.Verdict.{Verdict}
 use Rattle.from_old.specs.Tests.{whole_tests, line_verdict}
 use Rattle.to_old.specs.laws.Verdicts.{frame_accepts, frame_refuses}
 use Rattle.to_old.specs.Entry.{old_line}
@@ -68,17 +67,17 @@ module _ (c : Case) (f : Fields c) where
     unfolding whole_tests
     wholes_sound = (λ k. first_of (value_tests (again k) ++ heat_tests (heat_kept c f k) (again k))) ∙ none_lost c ∙ h
 
-    accepted_again : (room : ℕ) → 22 ≤ room → line_verdict (old_line c) room ≡ Accepted c
+    accepted_again : (room : ℕ) → 22 ≤ room → line_verdict (old_line c) room ≡ Ok c
     accepted_again room r =
         line_accepts (old_line c) room line_reads (ap (λ (k : OldCase). first_of (whole_tests k)) line_holds ∙ wholes_sound) r
-        ∙ ap {B = Verdict} Accepted (ap case_of line_holds ∙ again)
+        ∙ ap {B = Verdict} Ok (ap case_of line_holds ∙ again)
 
 -- a frame of bytes that passes tests 1 to 6
 module _ (frame : List ℕ) (s : Sound frame) where
   good : Fields (fields_of frame)
   good = (frame_clear frame s.passes).1.fields
 
-  comes : (room : ℕ) → (fields_of frame).air ≡ standard → 22 ≤ room → line_verdict (old_line (fields_of frame)) room ≡ Accepted (fields_of frame)
+  comes : (room : ℕ) → (fields_of frame).air ≡ standard → 22 ≤ room → line_verdict (old_line (fields_of frame)) room ≡ Ok (fields_of frame)
   comes room a r = accepted_again (fields_of frame) good a (sym (frame_case frame (frame_clear frame s.passes).0) ∙ s.passes) room r
 
   unchanged : length frame ≡ 22 → ((fields_of frame).air ≡ standard) × (frame_bytes (fields_of frame) ≡ frame)
@@ -88,7 +87,7 @@ module _ (frame : List ℕ) (s : Sound frame) where
   shortened n a = shorter_again frame s.bytes n (sym (air_of_fields frame) ∙ a)
 
 -- an accepted line
-module _ (line : List ℕ) (room : ℕ) (c : Case) (a : line_verdict line room ≡ Accepted c) where
+module _ (line : List ℕ) (room : ℕ) (c : Case) (a : line_verdict line room ≡ Ok c) where
   taken : LineTaken line room c
   taken = line_accepted line room c a
 

@@ -2,18 +2,18 @@
 use Rattle.probits.proofs.Counting.{sum_scalable, falling_summands, falling_counted, falling_probit}
 use Rattle.probits.proofs.falling.Goals as goal
 
-pub ten_thousandths-y-requires : goal.ten_thousandths-y-requires
-ten_thousandths-y-requires c =
+pub scaled-requires-clause-factors : goal.scaled-requires-clause-factors
+scaled-requires-clause-factors c =
     sum_scalable c.requires c.ln-l.ensures
 
-pub sub-z-requires : goal.sub-z-requires
-sub-z-requires c =
-    falling_summands c.requires c.ln-l.ensures c.ten_thousandths-y.ensures
+pub sub-requires : goal.sub-requires
+sub-requires c =
+    falling_summands c.requires c.ln-l.ensures c.scaled.ensures
 
 pub thousandths-requires : goal.thousandths-requires
 thousandths-requires c =
-    falling_counted c.requires c.ln-l.ensures c.ten_thousandths-y.ensures c.sub-z.ensures
+    falling_counted c.requires c.ln-l.ensures c.scaled.ensures c.sub.ensures
 
 pub returns : goal.returns
 returns c =
-    falling_probit c.requires c.ln-l.ensures c.ten_thousandths-y.ensures c.sub-z.ensures c.thousandths.ensures
+    falling_probit c.requires c.ln-l.ensures c.scaled.ensures c.sub.ensures c.thousandths.ensures

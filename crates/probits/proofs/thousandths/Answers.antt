@@ -7,5 +7,5 @@ use Rattle.probits.proofs.thousandths.Goals as goal
 
 pub returns : goal.returns
 returns c =
-    let k = counted c.requires c.floor_milli-lower.ensures c.ceil_milli-upper.ensures in
+    let k = counted c.requires c.floor_milli.ensures c.ceil_milli.ensures in
     subst₂ (λ (a b : ℤ). CountedIn c.args.y a b) (sym (reads_lower k.closed)) (sym (reads_upper k.closed)) k

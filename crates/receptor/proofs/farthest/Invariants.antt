@@ -5,7 +5,7 @@ use Rattle.receptor.specs.laws.Reach.{Within, Beyond}
 use Rattle.receptor.proofs.farthest.Given as goal
 
 abbrev pub invariant-loop-high : goal.invariant-loop-high
-invariant-loop-high l = Between (Within l.air l.c) (Beyond l.air l.c 1000000) l.low l.high × (1 ≤ l.low) × (l.high ≤ 1000001)
+invariant-loop-high l = Between (Within l.here.air l.here.case) (Beyond l.here.air l.here.case 1000000) l.low l.high × (1 ≤ l.low) × (l.high ≤ 1000001)
 
 abbrev pub decreases-loop-high : goal.decreases-loop-high
 decreases-loop-high l = l.high - l.low

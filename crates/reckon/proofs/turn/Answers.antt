@@ -1,36 +1,12 @@
--- `reckon::turn` meets its contract. Assumes nothing.
-use Rattle.reckon.proofs.Passing.{past_none, past_front, last_ready, part_ready}
+-- `reckon::turn` meets its contract: no byte is used where the input has ended. Assumes nothing.
+use Rattle.std.proofs.lemmas.Result.{IfOk-from_err}
+use Rattle.reckon.proofs.Passing.{turns_none}
 use Rattle.reckon.proofs.turn.Goals as goal
 
-pub last-written-requires : goal.last-written-requires
-last-written-requires c =
-    last_ready c.requires.ready
+pub returns-in_err-last : goal.returns-in_err-last
+returns-in_err-last c =
+    turns_none c.args.stream.now c.read_some-n.new.input (IfOk-from_err c.from_residual.result _ c.from_residual.ensures.0)
 
-pub shape_of-input-then-n-eq0 : goal.shape_of-input-then-n-eq0
-shape_of-input-then-n-eq0 c =
-    c.read_some-n.auto.input
-
-pub shape_of-out-then-n-eq0 : goal.shape_of-out-then-n-eq0
-shape_of-out-then-n-eq0 c =
-    c.last-written.auto.out
-
-pub returns-then-n-eq0 : goal.returns-then-n-eq0
-returns-then-n-eq0 c =
-    past_none c.read_some-n.new.input c.requires.ready
-
-pub pass-requires : goal.pass-requires
-pass-requires c =
-    let pre = c.requires in
-    part_ready pre.buffers pre.ready c.read_some-n.new.input c.read_some-n.result c.read_some-n.auto.input c.read_some-n.ensures
-
-pub shape_of-input : goal.shape_of-input
-shape_of-input c =
-    c.read_some-n.auto.input
-
-pub shape_of-out : goal.shape_of-out
-shape_of-out c =
-    c.pass.auto.out
-
-pub returns : goal.returns
-returns c =
-    past_front c.read_some-n.result _ c.read_some-n.ensures c.pass.ensures.past
+pub returns-in_ok-last : goal.returns-in_ok-last
+returns-in_ok-last c =
+    turns_none c.args.stream.now c.read_some-n.new.input c.if-n-eq0.true

@@ -1,5 +1,4 @@
 -- `ring::edge` meets its contract: bisection between a distance where the end reaches the threshold and one where it does not. Assumes nothing.
-use Prim.Native.Nat.{◌-◌}
 use native.Mathlib.Omega.{arith}
 use Rattle.bisection.proofs.Middle.{inside}
 use Rattle.bisection.proofs.Bisection.{raised, lowered, closed}
@@ -32,9 +31,10 @@ loop-high-smaller-then-end_of-threshold c =
 pub loop-high-preserved-then-end_of-threshold : goal.loop-high-preserved-then-end_of-threshold
 loop-high-preserved-then-end_of-threshold c =
     let a = c.args in
+    let h = a.here.now in
     let t = c.loop-high-test.true in
     let found = below_at c.pressure_at-e.ensures c.end_of.ensures c.if-end_of-threshold.true in (
-      lowered (Reaches a.side a.air a.c a.threshold) (Below a.side a.air a.c a.threshold) c.loop-high.invariant.0 t found,
+      lowered (Reaches a.side h.air h.case a.threshold) (Below a.side h.air h.case a.threshold) c.loop-high.invariant.0 t found,
       c.loop-high.invariant.1,
       omega (arith, inside _ _ t, c.loop-high.invariant.2),
     )
@@ -46,9 +46,10 @@ loop-high-smaller c =
 pub loop-high-preserved : goal.loop-high-preserved
 loop-high-preserved c =
     let a = c.args in
+    let h = a.here.now in
     let t = c.loop-high-test.true in
     let found = reached_at c.pressure_at-e.ensures c.end_of.ensures c.if-end_of-threshold.false in (
-      raised (Reaches a.side a.air a.c a.threshold) (Below a.side a.air a.c a.threshold) c.loop-high.invariant.0 t found,
+      raised (Reaches a.side h.air h.case a.threshold) (Below a.side h.air h.case a.threshold) c.loop-high.invariant.0 t found,
       omega (arith, inside _ _ t, c.loop-high.invariant.1),
       c.loop-high.invariant.2,
     )
@@ -56,9 +57,10 @@ loop-high-preserved c =
 pub returns : goal.returns
 returns c =
     let a = c.args in
+    let h = a.here.now in
     record {
       least = c.loop-high.invariant.1;
       most = omega (arith, c.loop-high.invariant.0.order, c.loop-high.invariant.2);
       reaches = c.loop-high.invariant.0.low;
-      next = closed (Reaches a.side a.air a.c a.threshold) (Below a.side a.air a.c a.threshold) c.loop-high.invariant.0 c.loop-high-test.false;
+      next = closed (Reaches a.side h.air h.case a.threshold) (Below a.side h.air h.case a.threshold) c.loop-high.invariant.0 c.loop-high-test.false;
     }

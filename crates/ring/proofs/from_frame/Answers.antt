@@ -6,9 +6,9 @@ use Rattle.ring.proofs.from_frame.Goals as goal
 
 pub answer_to-requires : goal.answer_to-requires
 answer_to-requires c d e =
-    frame_heated _ d (sym c.check_frame-s.ensures ∙ e)
+    frame_heated _ d (sym c.check_frame.ensures ∙ e)
 
 pub returns : goal.returns
 returns c =
     let a = c.args in
-    frame_answers a.frame.now a.threshold c.answer_to.result c.check_frame-s.ensures c.answer_to.ensures
+    frame_answers a.frame.now a.threshold c.answer_to.result c.check_frame.ensures c.answer_to.ensures

@@ -6,9 +6,9 @@ use Rattle.ring.proofs.from_line.Goals as goal
 
 pub answer_to-requires : goal.answer_to-requires
 answer_to-requires c d e =
-    line_heated _ d (sym c.check_line-s.ensures ∙ e)
+    line_heated _ d (sym c.check_line.ensures ∙ e)
 
 pub returns : goal.returns
 returns c =
     let a = c.args in
-    line_answers a.line.now a.threshold c.answer_to.result c.check_line-s.ensures c.answer_to.ensures
+    line_answers a.line.now a.threshold c.answer_to.result c.check_line.ensures c.answer_to.ensures

@@ -2,10 +2,6 @@
 use Rattle.ring.specs.laws.Standing.{standing_accepted}
 use Rattle.ring.proofs.pressure_at.Goals as goal
 
-pub pressure-requires : goal.pressure-requires
-pressure-requires c =
-    (rw c.moved-m.ensures (standing_accepted c.requires), c.requires.pressure)
-
-pub returns : goal.returns
-returns c =
-    rw c.moved-m.ensures at c.pressure.ensures
+pub of-requires : goal.of-requires
+of-requires c =
+    let e = c.at_distance-there.ensures in rw (e.1, e.0) (standing_accepted c.requires)

@@ -8,9 +8,11 @@ use Rattle.ring.proofs.ring_for.Goals as goal
 pub returns : goal.returns
 returns c =
     let a = c.args in
-    within_limits a.air a.c a.threshold c.search.result (sym c.is_outside.ensures ∙ c.if-is_outside.false) c.search.ensures
+    let h = a.here.now in
+    within_limits h.air h.case a.threshold c.search.result (sym c.is_outside.ensures ∙ c.if-is_outside.false) c.search.ensures
 
 pub returns-then-is_outside : goal.returns-then-is_outside
 returns-then-is_outside c =
     let a = c.args in
-    outside_limits a.air a.c a.threshold (sym c.is_outside.ensures ∙ c.if-is_outside.true)
+    let h = a.here.now in
+    outside_limits h.air h.case a.threshold (sym c.is_outside.ensures ∙ c.if-is_outside.true)

@@ -28,4 +28,4 @@ returns c =
     let inner = c.edge-inner.ensures in
     let outer = c.edge-outer.ensures in
     ring inner.least outer.least (omega (arith, outer.most, k.is_farthest)) inner.reaches k.first outer.next
-    (subst (Below Upper c.args.air c.args.c c.args.threshold) k.is_farthest k.last) inner.next outer.reaches
+    (subst (Below Upper c.args.here.now.air c.args.here.now.case c.args.threshold) k.is_farthest k.last) inner.next outer.reaches

@@ -2,6 +2,7 @@
 -- what is known where the threshold is reached at 1 cm, and that is not the farthest distance
 use mathlib.Core.Path.{◌≡◌, refl, sym, ◌∙◌, subst}
 use native.Mathlib.Omega.{arith}
+use Rattle.guidance.proofs.laws.Domain.{heated_placed}
 use Rattle.receptor.specs.Receptor.{farthest}
 use Rattle.ring.specs.declared.Side.TheVariants.{Lower}
 use Rattle.ring.specs.Searching.{Reaches, Standing}
@@ -12,7 +13,7 @@ use Rattle.ring.proofs.search.Goals as goal
 
 pub pressure_at-first-requires : goal.pressure_at-first-requires
 pressure_at-first-requires c =
-    standing_first c.requires.0 c.requires.1
+    let p = c.args.here.now.placed in standing_first (heated_placed p) p.pressure
 
 pub returns-then-first-threshold : goal.returns-then-first-threshold
 returns-then-first-threshold c =
@@ -27,16 +28,18 @@ returns-then-far-eq1 c =
 
 pub pressure_at-last-requires : goal.pressure_at-last-requires
 pressure_at-last-requires c =
-    let is_far : c.farthest-far.result ≡ farthest c.args.air c.args.c = c.farthest-far.ensures in
-    let stands : Standing c.args.air c.args.c c.farthest-far.result = subst (Standing c.args.air c.args.c) (sym is_far) (standing_last c.requires.0 c.requires.1) in
+    let is_far : c.farthest-far.result ≡ farthest c.args.here.now.air c.args.here.now.case = c.farthest-far.ensures in
+    let p = c.args.here.now.placed in
+    let stands : Standing c.args.here.now.air c.args.here.now.case c.farthest-far.result = subst (Standing c.args.here.now.air c.args.here.now.case) (sym is_far) (standing_last (heated_placed p) p.pressure) in
     stands
 
 pub ring_within-requires : goal.ring_within-requires
 ring_within-requires c =
-    let is_far : c.farthest-far.result ≡ farthest c.args.air c.args.c = c.farthest-far.ensures in
+    let is_far : c.farthest-far.result ≡ farthest c.args.here.now.air c.args.here.now.case = c.farthest-far.ensures in
     let not_one : c.farthest-far.result ≡ 1 → ⊥ = c.if-far-eq1.false in
-    let first : Reaches Lower c.args.air c.args.c c.args.threshold 1 = reached_at c.pressure_at-first.ensures refl c.if-first-threshold.false in
-    let stands : Standing c.args.air c.args.c c.farthest-far.result = subst (Standing c.args.air c.args.c) (sym is_far) (standing_last c.requires.0 c.requires.1) in
+    let first : Reaches Lower c.args.here.now.air c.args.here.now.case c.args.threshold 1 = reached_at c.pressure_at-first.ensures refl c.if-first-threshold.false in
+    let p = c.args.here.now.placed in
+    let stands : Standing c.args.here.now.air c.args.here.now.case c.farthest-far.result = subst (Standing c.args.here.now.air c.args.here.now.case) (sym is_far) (standing_last (heated_placed p) p.pressure) in
     record {
       standing = stands;
       is_farthest = is_far;
@@ -52,6 +55,6 @@ returns-then-last-threshold c =
 -- at a farther one
 pub returns-else-last-threshold : goal.returns-else-last-threshold
 returns-else-last-threshold c =
-    let is_far : c.farthest-far.result ≡ farthest c.args.air c.args.c = c.farthest-far.ensures in
-    let first : Reaches Lower c.args.air c.args.c c.args.threshold 1 = reached_at c.pressure_at-first.ensures refl c.if-first-threshold.false in
+    let is_far : c.farthest-far.result ≡ farthest c.args.here.now.air c.args.here.now.case = c.farthest-far.ensures in
+    let first : Reaches Lower c.args.here.now.air c.args.here.now.case c.args.threshold 1 = reached_at c.pressure_at-first.ensures refl c.if-first-threshold.false in
     strong first (rw (sym is_far) (reached_at c.pressure_at-last.ensures refl c.if-last-threshold.false))

@@ -6,7 +6,7 @@ use native.Mathlib.Omega.{arith}
 use borrow.Author.Tests.{eq-eqb, eqb-true, eqb-false, le-leb, lt-leb}
 use Rattle.guidance.specs.declared.Case.{Case}
 use Rattle.guidance.specs.Waves.{overpressure}
-use Rattle.layout.specs.declared.Ends.{Ends}
+use Rattle.layout.specs.declared.Interval.{Interval}
 use Rattle.blast.specs.WaveEnds.{WaveEnds}
 use Rattle.blast.proofs.Ending.{wave_ends}
 use Rattle.receptor.specs.Receptor.{moved, farthest}
@@ -17,11 +17,11 @@ use Rattle.ring.specs.Searching.{end_of, PressureAt, Reaches, Below}
 use Rattle.ring.specs.laws.Sides.{in_order, both}
 
 -- a pair that holds ΔP at d, and is as asked
-pub record Pair (air : ℕ) (c : Case) (Good : Ends → Type 0) (d : ℕ) (e : Ends) : Type 0 where
+pub record Pair (air : ℕ) (c : Case) (Good : Interval ℕ → Type 0) (d : ℕ) (e : Interval ℕ) : Type 0 where
   pub holds : WaveEnds (overpressure air (moved c d)) e
   pub good : Good e
 
-module _ {air : ℕ} {c : Case} {Good : Ends → Type 0} where
+module _ {air : ℕ} {c : Case} {Good : Interval ℕ → Type 0} where
   found : {d : ℕ} (p : PressureAt air c d) → Good p.ends → Pair air c Good d p.ends
   found p g = record { holds = wave_ends p.ended; good = g }
 
@@ -29,7 +29,7 @@ module _ {air : ℕ} {c : Case} {Good : Ends → Type 0} where
   found_at p g e = subst (λ (m : ℕ). Pair air c Good m p.ends) (sym e) (found p g)
 
   -- the one where d is n, else the other
-  either : (d n : ℕ) (a b : Ends) → (d ≡ n → Pair air c Good d a) → Pair air c Good d b → Pair air c Good d (cond (eqb d n) a b)
+  either : (d n : ℕ) (a b : Interval ℕ) → (d ≡ n → Pair air c Good d a) → Pair air c Good d b → Pair air c Good d (cond (eqb d n) a b)
   either d n a b f g = go (eqb d n) refl
     where
       go : (q : Bool) → eqb d n ≡ q → Pair air c Good d (cond q a b)
@@ -38,10 +38,10 @@ module _ {air : ℕ} {c : Case} {Good : Ends → Type 0} where
 
 -- what is asked of a pair: its lower or its upper end reaches t, or is below it
 
-abbrev Reaching : Side → (t : ℕ) → Ends → Type 0
+abbrev Reaching : Side → (t : ℕ) → Interval ℕ → Type 0
 Reaching side t e = t ≤ end_of side e
 
-abbrev Under : Side → (t : ℕ) → Ends → Type 0
+abbrev Under : Side → (t : ℕ) → Interval ℕ → Type 0
 Under side t e = end_of side e < t
 
 module _ {air : ℕ} {c : Case} {t : ℕ} where
@@ -85,7 +85,7 @@ module _
       go false e = (b.pressure, record { below = b.below; reaches = λ k. absurd (eqb-false r (inner + 1) e k) })
 
   -- pairs that reach up to the inner distance, pairs that are below from the outer one on, and two between
-  unfoldable ends : ℕ → Ends
+  unfoldable ends : ℕ → Interval ℕ
   ends d =
       cond (leb d inner) (cond (eqb d inner) a.pressure.ends f.pressure.ends)
       (cond (leb d r) (cond (eqb d (inner + 1)) next.0.ends p.pressure.ends)

@@ -1,5 +1,5 @@
 -- From what tests 1 to 6 make of a case to the promise of the entries; which numbers never come. Assumes nothing.
-use Rattle.std.specs.Prelude.{ℕ, ◌*◌, ◌≡◌, refl, true, false, List}
+use Rattle.std.specs.Prelude.{ℕ, ◌*◌, ◌≡◌, refl, true, false, List, Err}
 use Rattle.std.proofs.Common.{subst, arith}
 use Rattle.std.proofs.Math.Option.{Option, none, some}
 use Rattle.guidance.specs.declared.Case.{Case}
@@ -12,7 +12,7 @@ use Rattle.refusals.specs.Order.{Test, first_of}
 use Rattle.refusals.proofs.laws.Order.{or_else, first_held, same_held}
 use Rattle.refusals.proofs.laws.Numbers.{no_fault}
 use Rattle.fields.specs.Bytes.{fields_of}
-use Rattle.limits.specs.declared.Checked.{Checked}
+use Rattle.limits.specs.Checked.{Checked}
 use Rattle.limits.specs.Tests.{outside}
 use Rattle.limits.specs.Checks.{checked_by}
 use Rattle.frame.specs.Tests.{either, frame_tests, line_tests}
@@ -22,15 +22,14 @@ use Rattle.receptor.specs.Receptor.{moved}
 use Rattle.receptor.specs.laws.Moved.{never_beyond}
 use Rattle.ring.specs.declared.Refusal.{Refusal}
 use Rattle.ring.specs.declared.Refusal.TheVariants.{Faulty, Threshold, Weak, Strong}
-use Rattle.ring.specs.declared.Answer.{Answer}
-use Rattle.ring.specs.declared.Answer.TheVariants.{Refused}
+use Rattle.ring.specs.Answer.{Answer}
 use Rattle.ring.specs.Refusals.{number}
 use Rattle.ring.specs.Ring.{last_tests, tests, Fits, Answers, OwnRing, FromFrame, FromLine}
 use Rattle.ring.specs.Searching.{RingFor, AnswerTo}
 
 -- by test 9
 
-pub outside_limits : (air : ℕ) (c : Case) (t : ℕ) → outside 1 (18 * air) t ≡ true → RingFor air c t (Refused Threshold)
+pub outside_limits : (air : ℕ) (c : Case) (t : ℕ) → outside 1 (18 * air) t ≡ true → RingFor air c t (Err Threshold)
 unfolding first_of last_tests
 outside_limits air c t h = rw h refl
 

@@ -7,7 +7,7 @@ use Rattle.exact.proofs.laws.OneValue.{one_value}
 use Rattle.span.specs.Spans.{whole_f}
 use Rattle.guidance.specs.declared.Case.{Case}
 use Rattle.guidance.specs.Waves.{overpressure}
-use Rattle.layout.specs.declared.Ends.{Ends}
+use Rattle.layout.specs.declared.Interval.{Interval}
 use Rattle.blast.specs.Promises.{Ended}
 use Rattle.receptor.specs.Receptor.{moved}
 use Rattle.ring.specs.declared.Side.{Side}
@@ -15,7 +15,7 @@ use Rattle.ring.specs.declared.Side.TheVariants.{Lower, Upper}
 use Rattle.ring.specs.Searching.{end_of, PressureAt, Reaches, Below}
 
 -- from what a call gives
-module _ {side : Side} {air : ℕ} {c : Case} {t d : ℕ} {e : Ends} (h : Ended (overpressure air (moved c d)) (2 ^ 24) e) where
+module _ {side : Side} {air : ℕ} {c : Case} {t d : ℕ} {e : Interval ℕ} (h : Ended (overpressure air (moved c d)) (2 ^ 24) e) where
   pub reached_at : {n : ℕ} → n ≡ end_of side e → t ≤ n → Reaches side air c t d
   reached_at q k = record { pressure = record { ends = e; ended = h }; reaches = omega arith }
 

@@ -1,15 +1,14 @@
--- `rules::answer_to` meets its contract. Assumes nothing.
-use mathlib.Core.Path.{refl}
+use Rattle.std.proofs.Common.{rules}
 use Rattle.rules.proofs.answer_to.Goals as goal
 
-pub rules_of-rules-requires : goal.rules_of-rules-requires
-rules_of-rules-requires c =
-    c.requires _ c.in-Accepted.is
+pub returns-in_err-c : goal.returns-in_err-c
+returns-in_err-c c =
+    rw c.in_err-c.was (search rules)
 
-pub returns-in-Accepted : goal.returns-in-Accepted
-returns-in-Accepted c =
-    rw c.in-Accepted.is c.rules_of-rules.ensures
+pub rules_of-requires : goal.rules_of-requires
+rules_of-requires c =
+    c.requires _ c.in_ok-c.was
 
-pub returns-in-Refused : goal.returns-in-Refused
-returns-in-Refused c =
-    rw c.in-Refused.is refl
+pub returns : goal.returns
+returns c =
+    rw c.in_ok-c.was c.rules_of.ensures

@@ -11,7 +11,7 @@ use Rattle.guidance.specs.declared.Case.{Case}
 use Rattle.guidance.specs.Clouds.{deflagrates}
 use Rattle.guidance.specs.Distances.{nearer, cube034}
 use Rattle.guidance.specs.Waves.{near_field}
-use Rattle.layout.specs.declared.Ends.{Ends}
+use Rattle.layout.specs.declared.Interval.{Interval}
 use Rattle.blast.specs.Promises.{PressureSpan, ImpulseSpan, Rounded}
 use Rattle.blast.proofs.Ending.{pressure_ended, impulse_ended}
 use Rattle.blast.specs.WaveEnds.{WaveEnds}
@@ -35,7 +35,7 @@ module _ (f d : Span) {r : Rule} where
 -- an interval around a figure, and the whole numbers around the interval
 record Figure (x : Formula) (s : Span) : Type 0 where
   encloses : Encloses s x enough
-  ends : (e : Ends) → Rounded s e → WaveEnds x e
+  ends : (e : Interval ℕ) → Rounded s e → WaveEnds x e
 
 pressure_figure : {x : Formula} {s : Span} → PressureSpan x s → Figure x s
 pressure_figure p = record { encloses = p.value.encloses enough (omega arith); ends = λ e r. wave_ends (pressure_ended p r) }

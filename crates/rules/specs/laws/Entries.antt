@@ -1,31 +1,29 @@
 -- Of the entries: refusal 8 never comes, nor 2 from a frame, and a line is answered as the frame that it spells. Assumes nothing.
-use Rattle.std.specs.Prelude.{ℕ, ◌≡◌, true, List}
+use Rattle.std.specs.Prelude.{ℕ, ◌≡◌, true, List, Err, Ok}
 use Rattle.std.proofs.Common.{subst, ap, arith}
 use Rattle.hexadecimals.specs.Digits.{all_digits, bytes_of}
 use Rattle.refusals.specs.declared.Fault.TheVariants.{Digit}
 use Rattle.frame.specs.declared.Refusal.{Refusal}
 use Rattle.frame.specs.declared.Refusal.TheVariants.{Faulty, Space}
-use Rattle.frame.specs.declared.Verdict.{Verdict}
-use Rattle.frame.specs.declared.Verdict.TheVariants as verdict
+use Rattle.frame.specs.Verdict.{Verdict}
 use Rattle.frame.specs.Verdicts.{answer_length, frame_verdict, line_verdict}
 use Rattle.frame.specs.Tests.{either}
 use Rattle.frame.specs.laws.Verdicts.{line_frame, frame_no_digit, frame_no_space, line_no_space}
-use Rattle.rules.specs.declared.Answer.{Answer}
-use Rattle.rules.specs.declared.Answer.TheVariants.{Refused}
+use Rattle.rules.specs.Answer.{Answer}
 use Rattle.rules.specs.Rules.{Answers, FromFrame, FromLine}
 
 -- a refusal that comes is the verdict's
-refused_as : (v : Verdict) (q : Refusal) → Answers v (Refused q) → v ≡ verdict.Refused q
-refused_as (verdict.Accepted c) q h = absurd h
-refused_as (verdict.Refused r) q h = let e : r ≡ q = cc in ap {B = Verdict} verdict.Refused e
+refused_as : (v : Verdict) (q : Refusal) → Answers v (Err q) → v ≡ Err q
+refused_as (Ok c) q h = absurd h
+refused_as (Err r) q h = let e : r ≡ q = cc in ap {B = Verdict} Err e
 
-pub frame_never_space : (frame : List ℕ) → FromFrame frame (Refused Space) → ⊥
+pub frame_never_space : (frame : List ℕ) → FromFrame frame (Err Space) → ⊥
 frame_never_space frame h = frame_no_space frame answer_length (omega arith) (refused_as (frame_verdict frame answer_length) Space h)
 
-pub frame_never_digit : (frame : List ℕ) → FromFrame frame (Refused (Faulty Digit)) → ⊥
+pub frame_never_digit : (frame : List ℕ) → FromFrame frame (Err (Faulty Digit)) → ⊥
 frame_never_digit frame h = frame_no_digit frame answer_length (refused_as (frame_verdict frame answer_length) (Faulty Digit) h)
 
-pub line_never_space : (line : List ℕ) → FromLine line (Refused Space) → ⊥
+pub line_never_space : (line : List ℕ) → FromLine line (Err Space) → ⊥
 line_never_space line h = line_no_space line answer_length (omega arith) (refused_as (line_verdict line answer_length) Space h)
 
 pub line_as_frame : (line : List ℕ) (a : Answer) → either 44 48 line ≡ true → all_digits line ≡ true → FromLine line a → FromFrame (bytes_of line) a

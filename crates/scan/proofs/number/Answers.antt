@@ -1,19 +1,7 @@
--- `scan::number` meets its contract: the number so far goes on over what is left. Assumes nothing.
+-- `scan::number` meets its contract: no number is greater than the largest. Assumes nothing.
+use Rattle.scan.proofs.Reading.{spelled_small}
 use Rattle.std.proofs.Common.{rules}
-use Rattle.scan.specs.Words.{shifted, spelled}
-use Rattle.scan.proofs.Folds.{fold_first, fold_again, fold_last}
 use Rattle.scan.proofs.number.Goals as goal
 
-pub loop-at-init : goal.loop-at-init
-loop-at-init c =
-    (fold_first shifted _, search rules)
-
-pub loop-at-preserved : goal.loop-at-preserved
-loop-at-preserved c =
-    let e = c.shifted-value.ensures in
-    (fold_again c.loop-at.invariant.0 c.loop-at-test.true e.0, e.1)
-
-pub returns : goal.returns
-unfolding spelled
-returns c =
-    let i = c.loop-at.invariant in (fold_last i.0 c.loop-at-test.false, i.1)
+pub returns-clause-small : goal.returns-clause-small
+returns-clause-small c = let h = spelled_small c.args.word.now in search (rules, spelled_small)

@@ -1,7 +1,8 @@
 -- Two files that differ in one byte have different sums. Assumes nothing.
 use Rattle.std.specs.Prelude.{◌≡◌, ℕ, ◌+◌, ◌*◌, ◌/◌, ◌%◌, ◌<◌, List, [], ◌∷◌, ◌++◌}
 use Rattle.std.proofs.Common.{sym, ap, ◌∙◌, div-add-mod', mod-lt, mod-eq_of_lt, arith}
-use mathlib.Core.List.{foldl, foldl-append}
+use Rattle.std.specs.List.{fold}
+use Rattle.std.proofs.lemmas.List.Sums.{fold-append}
 use Rattle.std.proofs.Math.Nat.{add-mul-mod_self_left}
 use Rattle.scan.specs.Sums.{prime, next, sum_of}
 
@@ -23,7 +24,7 @@ same_sum r s b h k e =
 same_byte : (r b c : ℕ) → b < 256 → c < 256 → next r b ≡ next r c → b ≡ c
 same_byte r b c h k e = omega (arith, div-add-mod' (256 * r + b) prime, div-add-mod' (256 * r + c) prime)
 
-same_start : (bytes : List ℕ) (r s : ℕ) → r < prime → s < prime → foldl next r bytes ≡ foldl next s bytes → r ≡ s
+same_start : (bytes : List ℕ) (r s : ℕ) → r < prime → s < prime → fold next r bytes ≡ fold next s bytes → r ≡ s
 same_start [] r s h k e = e
 same_start (b ∷ bytes) r s h k e = same_sum r s b h k (same_start bytes (next r b) (next s b) (small r b) (small s b) e)
 
@@ -33,8 +34,7 @@ pub one_byte : (front back : List ℕ) (b c : ℕ)
     → c < 256
     → sum_of (front ++ (b ∷ back)) ≡ sum_of (front ++ (c ∷ back))
     → b ≡ c
-unfolding sum_of
 one_byte front back b c h k e =
     let r = sum_of front in
-    let e' = sym (foldl-append next 0 front (b ∷ back)) ∙ e ∙ foldl-append next 0 front (c ∷ back) in
+    let e' = sym (fold-append next 0 front (b ∷ back)) ∙ e ∙ fold-append next 0 front (c ∷ back) in
     same_byte r b c h k (same_start back (next r b) (next r c) (small r b) (small r c) e')

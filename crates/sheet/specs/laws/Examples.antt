@@ -1,6 +1,5 @@
 -- A sheet of the propane example's receptors and its totals, worked on the definitions: docs/sheets.md goes through it. Assumes nothing.
-use Rattle.std.specs.Prelude.{ℕ, ◌/◌, ◌%◌, ◌≡◌, refl, List, [], ◌∷◌}
-use Rattle.std.proofs.Math.Option.{Option, some}
+use Rattle.std.specs.Prelude.{ℕ, ◌/◌, ◌%◌, ◌≡◌, refl, List, [], ◌∷◌, Option, Some, Ok, Err}
 use Rattle.std.proofs.Math.Decide.{dec_le}
 use Rattle.exact.specs.Fraction.{whole, ◌⊗◌, power}
 use Rattle.guidance.specs.declared.Case.{Case}
@@ -16,9 +15,6 @@ use Rattle.places.specs.declared.Held.{Held}
 use Rattle.places.specs.Holes.{ahead, trim, at, added, withdrawn, closed}
 use Rattle.totals.specs.Totals.{count, greatest, first_with, totals_of}
 use Rattle.sheet.specs.declared.Refusal.TheVariants.{Beyond}
-use Rattle.sheet.specs.declared.Vacancy.TheVariants.{Vacant}
-use Rattle.sheet.specs.declared.Placing.TheVariants as placed
-use Rattle.sheet.specs.declared.Found.TheVariants as there
 use Rattle.sheet.specs.Tests.{own_tests, add_tests}
 use Rattle.sheet.specs.Operations.{Operation, add_frame, withdraw, close, case_at, placing, finding, counting, adding, found, held_of, act}
 use Rattle.sheet.specs.Runs.{after, answered}
@@ -40,14 +36,14 @@ yard =
 
 -- what is on it then
 abbrev pub left : List (Option Held)
-left = some (held_of (case 10000) 29033) ∷ some (held_of (case 30000) 12046) ∷ some (held_of (case 25000) 14170) ∷ []
+left = Some (held_of (case 10000) 29033) ∷ Some (held_of (case 30000) 12046) ∷ Some (held_of (case 25000) 14170) ∷ []
 
 pub record Examples : Type 0 where
   pub answers
       : answered [] yard
-      ≡ placing (placed.At 1) ∷ placing (placed.At 2) ∷ placing (placed.At 3) ∷ finding (there.Held (case 15000)) ∷ placing (placed.At 4)
-      ∷ finding (there.Refused Vacant) ∷ finding (there.Held (case 22000)) ∷ placing (placed.At 4) ∷ counting 3 ∷ finding (there.Held (case 30000))
-      ∷ placing (placed.Refused Beyond) ∷ []
+      ≡ placing (Ok 1) ∷ placing (Ok 2) ∷ placing (Ok 3) ∷ finding (Ok (case 15000)) ∷ placing (Ok 4)
+      ∷ finding (Err (record {})) ∷ finding (Ok (case 22000)) ∷ placing (Ok 4) ∷ counting 3 ∷ finding (Ok (case 30000))
+      ∷ placing (Err Beyond) ∷ []
   pub places : after [] yard ≡ left
 
 pub examples : Examples

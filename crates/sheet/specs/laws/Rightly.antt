@@ -1,7 +1,8 @@
 -- What operations put on a sheet: cases that passed tests 1 to 7, each with an upper end of its exact ΔP. Assumes nothing.
-use Rattle.std.specs.Prelude.{ℕ, ◌≡◌, List, []}
+use Rattle.std.specs.Prelude.{ℕ, ◌≡◌, List, [], Option}
 use Rattle.std.proofs.Common.{ap, ◌∙◌}
-use Rattle.std.proofs.Math.Option.{Option, none}
+use Rattle.std.proofs.Math.Option as maybe
+use Rattle.std.proofs.Math.Option.{none}
 use Rattle.guidance.specs.declared.Case.{Case}
 use Rattle.guidance.specs.Cases.{Accepted}
 use Rattle.guidance.specs.CloudWords.{Heated}
@@ -32,7 +33,7 @@ pub record RightlyHeld (h : Held) : Type 0 where
 
 module _ (ts : List (Test Fault)) (c : Case) (u : ℕ) (xs : List (Option Held)) (heated : first_of ts ≡ none → Heated c) where
   -- no test applies: the case is taken with its end
-  not_refused : (o : Option Refusal) → o ≡ none → refusal (adding o xs (held_of c u)).told ≡ none
+  not_refused : (o : maybe.Option Refusal) → o ≡ none → refusal (adding o xs (held_of c u)).told ≡ none
   unfolding adding
   not_refused o e = rw e
 

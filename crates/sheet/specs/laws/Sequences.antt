@@ -1,7 +1,6 @@
 -- From the empty sheet, any sequence of operations acts as on a plain list with holes, answers included. Assumes nothing.
-use Rattle.std.specs.Prelude.{◌≡◌, refl, List, [], ◌∷◌, length}
+use Rattle.std.specs.Prelude.{◌≡◌, refl, List, [], ◌∷◌, length, Option}
 use Rattle.std.proofs.Common.{ap, ◌∙◌}
-use Rattle.std.proofs.Math.Option.{Option}
 use Rattle.std.proofs.lemmas.Bool.{eqb-false}
 use Rattle.hexadecimals.specs.Digits.{bytes_of}
 use Rattle.refusals.specs.declared.Fault.{Fault}

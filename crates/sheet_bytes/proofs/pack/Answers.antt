@@ -1,24 +1,17 @@
 -- `sheet_bytes::pack` meets its contract: the first i places are written. Assumes nothing.
 use Prim.Native.Nat.{◌+◌, ◌*◌, ◌-◌}
 use native.Mathlib.Omega.{arith}
-use lib.ListN.{length-take, length-drop}
-use borrow.Author.Rules.{rules}
-use Rattle.places.specs.laws.Contents.{unmapped}
 use Rattle.sheet_bytes.proofs.Turns.{pack_first, pack_again, pack_last}
 use Rattle.sheet_bytes.proofs.pack.Goals as goal
 
 pub loop-i-init : goal.loop-i-init
 loop-i-init c =
-    pack_first _ _ (search (rules, unmapped)) c.requires
-
-pub put_place-requires : goal.put_place-requires
-put_place-requires c =
-    simp (length-take, length-drop) (omega arith)
+    pack_first _ _ c.requires
 
 pub loop-i-preserved : goal.loop-i-preserved
 loop-i-preserved c =
     let i = c.loop-i.i in
-    pack_again c.loop-i.invariant c.loop-i-test.true _ (32 * i + 32 - 32 * i) _ (omega arith) c.put_place.ensures
+    pack_again c.loop-i.invariant c.loop-i-test.true (32 * i + 32 - 32 * i) _ (omega arith) c.put_place.ensures
 
 pub shape_of-s : goal.shape_of-s
 shape_of-s c =

@@ -12,5 +12,5 @@ returns-then-s-eq0 c =
 pub returns : goal.returns
 unfolding in_air
 returns c =
-    case_read _ _ c.if-s-eq0.false (ap₂ in_air c.read-case.ensures (c.air_of_word.ensures ∙ ap air_of_word c.two_at.ensures.0))
-    c.four_at-upper.ensures.0
+    case_read _ _ c.if-s-eq0.false (ap₂ in_air c.read-case.ensures (c.air_of_word.ensures ∙ ap air_of_word c.number_at.ensures.number))
+    c.number_at-upper.ensures.number

@@ -1,16 +1,14 @@
 -- The list that lent bytes stand for: zeros are the empty sheet, and what was packed is read back. Assumes nothing.
-use Rattle.std.specs.Prelude.{ℕ, zero, suc, ◌+◌, ◌*◌, ◌≤◌, ◌<◌, ◌≡◌, refl, List, [], ◌∷◌, ◌++◌, length, replicate}
+use Rattle.std.specs.Prelude.{ℕ, zero, suc, ◌+◌, ◌*◌, ◌≤◌, ◌<◌, ◌≡◌, refl, List, [], ◌∷◌, ◌++◌, length, replicate, Option, None, Some}
 use Rattle.std.proofs.Common.{sym, ap, ◌∙◌, arith, not-suc-le-zero, length-append, lt-ltb, le-ltb}
-use Rattle.std.proofs.Math.Option.{Option, none, some}
 use Rattle.std.proofs.lemmas.List.{replicate-append-replicate}
 use Rattle.std.proofs.lemmas.List.Edits.{sets}
 use Rattle.byte_numbers.specs.laws.Storing.{at_start}
 use Rattle.places.specs.declared.Held.{Held}
 use Rattle.places.specs.declared.Places.{Places}
 use Rattle.places.specs.Holes.{ahead, trim, Plain, Each}
-use Rattle.places.specs.Places.{contents, stands_for}
+use Rattle.places.specs.Places.{stands_for}
 use Rattle.places.specs.laws.Trims.{ahead_same, trim_trim, length_trim}
-use Rattle.places.specs.laws.Contents.{sized}
 use Rattle.sheet_bytes.specs.Packing.{place_bytes, packed, pad, sheet_bytes, unpacked, size, lent}
 use Rattle.sheet_bytes.specs.laws.Places.{Fits, length_packed, length_unpacked, unpack_packed}
 
@@ -32,7 +30,7 @@ pad_trim (x ∷ xs) = ahead_same (pad (suc (length xs))) refl x (trim xs) ∙ ap
 trim_holes : (n : ℕ) → trim (pad n []) ≡ []
 unfolding pad trim ahead
 trim_holes zero = refl
-trim_holes (suc n) = ap (ahead none) (trim_holes n)
+trim_holes (suc n) = ap (ahead None) (trim_holes n)
 
 trim_pad : (n : ℕ) (xs : List (Option Held)) → length xs ≤ n → trim (pad n xs) ≡ trim xs
 unfolding pad trim
@@ -50,13 +48,13 @@ each_pad : (P : Held → Type 0) (n : ℕ) (xs : List (Option Held)) → Each P 
 unfolding pad Each
 each_pad P zero xs h = tt
 each_pad P (suc n) [] h = each_pad P n [] h
-each_pad P (suc n) (none ∷ xs) h = each_pad P n xs h
-each_pad P (suc n) (some c ∷ xs) h = (h.0, each_pad P n xs h.1)
+each_pad P (suc n) (None ∷ xs) h = each_pad P n xs h
+each_pad P (suc n) (Some c ∷ xs) h = (h.0, each_pad P n xs h.1)
 
 -- the places, from the list that they stand for
-pub contents_pad : (s : Places) → length s.all ≡ 64 → contents s ≡ pad 64 (stands_for s)
+pub contents_pad : (s : Places) → s.all ≡ pad 64 (stands_for s)
 unfolding stands_for
-contents_pad s h = sym (ap (λ (n : ℕ). pad n (trim (contents s))) (sym (sized s h)) ∙ pad_trim (contents s))
+contents_pad s = sym (ap (λ (n : ℕ). pad n (trim s.all)) (sym s.whole) ∙ pad_trim s.all)
 
 length_sheet : (xs : List (Option Held)) → length (sheet_bytes xs) ≡ size
 length_sheet xs = omega (arith, length_packed (pad 64 xs), length_pad 64 xs)

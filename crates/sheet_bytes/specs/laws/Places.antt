@@ -1,7 +1,6 @@
 -- The bytes of places: how many, one place more, and read back. Assumes nothing.
-use Rattle.std.specs.Prelude.{ℕ, zero, suc, ◌+◌, ◌*◌, ◌^◌, ◌<◌, ◌≡◌, refl, Bool, true, false, cond, List, [], ◌∷◌, ◌++◌, length, take, drop, eqb}
+use Rattle.std.specs.Prelude.{ℕ, zero, suc, ◌+◌, ◌*◌, ◌^◌, ◌<◌, ◌≡◌, refl, Bool, true, false, cond, List, [], ◌∷◌, ◌++◌, length, take, drop, eqb, Option, None, Some}
 use Rattle.std.proofs.Common.{sym, ap, ◌∙◌, append_assoc, append-nil, arith, length-append, take_at, drop_at, drop-drop, eq-eqb, ne_eqb, eqb-true}
-use Rattle.std.proofs.Math.Option.{Option, none, some}
 use Rattle.guidance.specs.AirPressure.{standard, in_air}
 use Rattle.guidance.specs.Cases.{Fields}
 use Rattle.byte_numbers.specs.Numbers.{one_at, four_at, one, two, four}
@@ -19,8 +18,8 @@ pub record Fits (h : Held) : Type 0 where
 
 pub length_place : (x : Option Held) → length (place_bytes x) ≡ 32
 unfolding place_bytes first_bytes settings one two four
-length_place none = refl
-length_place (some h) = refl
+length_place None = refl
+length_place (Some h) = refl
 
 pub length_packed : (xs : List (Option Held)) → length (packed xs) ≡ 32 * length xs
 unfolding packed
@@ -48,7 +47,7 @@ length_unpacked zero s = refl
 length_unpacked (suc n) s = ap suc (length_unpacked n (drop 32 s))
 
 -- what a place's bytes are read as
-pub hole_read : (place : List ℕ) → one_at place 0 ≡ 0 → none ≡ held_in place
+pub hole_read : (place : List ℕ) → one_at place 0 ≡ 0 → None ≡ held_in place
 unfolding held_in
 hole_read place e = simp (eq-eqb (one_at place 0) 0 e)
 
@@ -57,9 +56,9 @@ pub case_read
     (one_at place 0 ≡ 0 → ⊥) →
     h.case ≡ case_in place →
     h.upper ≡ four_at place 23 →
-    some h ≡ held_in place
+    Some h ≡ held_in place
 unfolding held_in
-case_read place h e f g = rw (ne_eqb (one_at place 0) 0 e) (λ k. some (record { case = f k; upper = g k }))
+case_read place h e f g = rw (ne_eqb (one_at place 0) 0 e) (λ k. Some (record { case = f k; upper = g k }))
 
 -- what was packed is read back
 
@@ -81,13 +80,13 @@ word_lt air h = go (eqb air standard)
 
 place_back : (x : Option Held) → (xs : List (Option Held)) → Each Fits (x ∷ xs) → (held_in (place_bytes x) ≡ x) × Each Fits xs
 unfolding place_bytes first_bytes settings one two four Each
-place_back none xs h = (sym (hole_read (place_bytes none) refl), h)
-place_back (some c) xs h =
+place_back None xs h = (sym (hole_read (place_bytes None) refl), h)
+place_back (Some c) xs h =
     let f = h.0.fields in
     let air = c.case.air in
     let word = ap air_of_word (two_back (air_word air) (word_lt air (omega (arith, f.air_most)))) ∙ word_back air (omega (arith, f.air)) in
-    let case : case_in (place_bytes (some c)) ≡ c.case = ap (in_air (fields_of (first_bytes c.case))) word ∙ fields_in_air c.case f [] in
-    (sym (case_read (place_bytes (some c)) c (λ e. omega arith) (sym case) (sym (four_back c.upper h.0.upper))), h.1)
+    let case : case_in (place_bytes (Some c)) ≡ c.case = ap (in_air (fields_of (first_bytes c.case))) word ∙ fields_in_air c.case f [] in
+    (sym (case_read (place_bytes (Some c)) c (λ e. omega arith) (sym case) (sym (four_back c.upper h.0.upper))), h.1)
 
 pub unpack_packed : (xs : List (Option Held)) (rest : List ℕ) → Each Fits xs → unpacked (length xs) (packed xs ++ rest) ≡ xs
 unfolding unpacked packed

@@ -1,8 +1,8 @@
 -- `span::ceil_int` meets its contract. Assumes nothing.
-use borrow.Author.Rules.{rules}
+use Rattle.std.proofs.Common.{arith}
 use Rattle.span.proofs.Comparisons.{ceiled}
 use Rattle.span.proofs.ceil_int.Goals as goal
 
 pub returns : goal.returns
 returns c =
-    ceiled _ _ _ (search rules) c.shr_up.ensures
+    ceiled _ _ _ (omega arith) c.shr_up.ensures

@@ -42,35 +42,10 @@ cuttable lo hi e h l =
       room = h.most;
     }
 
-pub overflow_cast-l : goal.overflow_cast-l
-overflow_cast-l c =
-    let at : Top c.args.hi (count_leading_zeros 64 c.args.hi) = top _ _ _ c.requires in
-    omega (arith, at)
-
-pub overflow_shl-l : goal.overflow_shl-l
-overflow_shl-l c =
-    let at : Top c.args.hi (count_leading_zeros 64 c.args.hi) = top _ _ _ c.requires in
-    omega (arith, at)
-
-pub overflow_cast-h : goal.overflow_cast-h
-overflow_cast-h c =
-    let at : Top c.args.hi (count_leading_zeros 64 c.args.hi) = top _ _ _ c.requires in
-    omega (arith, at)
-
-pub overflow_shl-h : goal.overflow_shl-h
-overflow_shl-h c =
-    let at : Top c.args.hi (count_leading_zeros 64 c.args.hi) = top _ _ _ c.requires in
-    omega (arith, at)
-
-pub overflow_sub-f : goal.overflow_sub-f
-overflow_sub-f c =
-    let at : Top c.args.hi (count_leading_zeros 64 c.args.hi) = top _ _ _ c.requires in
-    omega (arith, at)
-
 pub cut-requires : goal.cut-requires
 cut-requires c =
-    cuttable _ _ _ c.requires c.if-z-ge33.false
+    cuttable _ _ _ c.requires c.if-zeros-ge33.false
 
-pub returns-then-z-ge33 : goal.returns-then-z-ge33
-returns-then-z-ge33 c =
-    shifted_up _ _ _ c.requires c.if-z-ge33.true
+pub returns-then-zeros-ge33 : goal.returns-then-zeros-ge33
+returns-then-zeros-ge33 c =
+    shifted_up _ _ _ c.requires c.if-zeros-ge33.true

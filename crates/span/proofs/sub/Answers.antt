@@ -1,5 +1,5 @@
 -- `span::sub` meets its contract. Assumes nothing.
-use native.Mathlib.Omega.{arith}
+use Rattle.std.proofs.Common.{arith}
 use Rattle.span.proofs.Differences.{lower_exponent, upper_taken, lower_taken, difference_roundable, difference_rounded}
 use Rattle.span.proofs.sub.Goals as goal
 
@@ -7,30 +7,25 @@ pub overflow_sub-d : goal.overflow_sub-d
 overflow_sub-d c =
     lower_exponent _ _ c.requires
 
-pub overflow_sub-l : goal.overflow_sub-l
-overflow_sub-l c =
-    let g = c.requires in
-    let down = c.shr_down-t.ensures in
-    let up = c.shr_up-u.ensures in
-    omega (arith, upper_taken _ _ _ _ g down up, lower_taken _ _ _ _ g down up)
+pub overflow_sub-a : goal.overflow_sub-a
+overflow_sub-a c =
+    upper_taken _ _ c.requires _ c.shr_up-up.ensures
 
-pub overflow_sub-h : goal.overflow_sub-h
-overflow_sub-h c =
-    let g = c.requires in
-    omega (arith, g.left.ordered, lower_taken _ _ _ _ g c.shr_down-t.ensures c.shr_up-u.ensures)
+pub overflow_sub-a-2 : goal.overflow_sub-a-2
+overflow_sub-a-2 c =
+    omega (arith, lower_taken _ _ c.requires _ c.shr_down-down.ensures)
 
 pub norm-requires : goal.norm-requires
 norm-requires c =
     let g = c.requires in
-    let down = c.shr_down-t.ensures in
-    let up = c.shr_up-u.ensures in
-    difference_roundable _ _ _ _ g down up _ _
-    (omega (arith, upper_taken _ _ _ _ g down up)) (omega (arith, g.left.ordered, lower_taken _ _ _ _ g down up))
+    let down = c.shr_down-down.ensures in
+    let up = c.shr_up-up.ensures in
+    difference_roundable _ _ _ _ g down up _ _ (omega (arith, upper_taken _ _ g _ up)) (omega (arith, lower_taken _ _ g _ down))
 
 pub returns : goal.returns
 returns c =
     let g = c.requires in
-    let down = c.shr_down-t.ensures in
-    let up = c.shr_up-u.ensures in
+    let down = c.shr_down-down.ensures in
+    let up = c.shr_up-up.ensures in
     difference_rounded _ _ _ _ g down up _ _ _
-    (omega (arith, upper_taken _ _ _ _ g down up)) (omega (arith, g.left.ordered, lower_taken _ _ _ _ g down up)) c.norm.ensures
+    (omega (arith, upper_taken _ _ g _ up)) (omega (arith, lower_taken _ _ g _ down)) c.norm.ensures

@@ -1,6 +1,8 @@
 -- Laws of decimal digits. Assumes nothing.
 use Rattle.std.specs.Prelude.{ℕ, zero, suc, ◌+◌, ◌/◌, ◌%◌, ◌^◌, ◌≤◌, ◌<◌, ◌≡◌, refl, List, [], ◌∷◌, ◌++◌, length, ltb}
 use Rattle.std.proofs.Common.{sym, ap, ◌∙◌, not-suc-le-zero, pow-suc, arith, length-append, ltb-true, ltb-false}
+use Rattle.std.specs.Fmt.{decimal as std_decimal}
+use Rattle.std.proofs.lemmas.Fmt.{decimal_by_steps}
 use Rattle.exact.proofs.laws.Tests.{settle}
 use Rattle.text.specs.Digits.{places, decimal}
 
@@ -57,3 +59,8 @@ decimal_short (suc k) n h =
     (λ e.
     rw (decimal_more (ltb-false n 10 e))
     (simp length-append (omega (arith, decimal_short k (n / 10) (omega (arith, pow-suc 10 (suc k)))))))
+
+-- the library's decimal is this one
+pub decimal_std : (n : ℕ) → n < 2 ^ 64 → decimal n ≡ std_decimal n
+decimal_std =
+    decimal_by_steps (λ n digits. decimal n ≡ digits) (λ n h. decimal_one h) (λ n digits h e. decimal_more h ∙ ap (λ (d : List ℕ). d ++ ((48 + n % 10) ∷ [])) e)

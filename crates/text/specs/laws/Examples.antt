@@ -1,10 +1,9 @@
 -- Known numbers, lines and texts, by computation; the text of document 01's three lines. Assumes nothing.
-use Rattle.std.specs.Prelude.{ℕ, ◌≡◌, refl, List, [], ◌∷◌, ◌++◌, replicate}
+use Rattle.std.specs.Prelude.{ℕ, ◌≡◌, refl, List, [], ◌∷◌, ◌++◌, replicate, Err}
 use Rattle.refusals.specs.declared.Fault.TheVariants.{Length, Digit, Placement, Heat}
 use Rattle.hexadecimals.specs.Written.{upper, digits_of}
 use Rattle.frame.specs.declared.Refusal.{Refusal}
 use Rattle.frame.specs.declared.Refusal.TheVariants.{Faulty}
-use Rattle.frame.specs.declared.Verdict.TheVariants.{Refused}
 use Rattle.frame.specs.Refusals.{number}
 use Rattle.frame.specs.Verdicts.{line_verdict}
 use Rattle.frame.specs.laws.Examples.{third_line, placement_line, examples}
@@ -49,7 +48,7 @@ unfolding lines_of ended left last_line
 three_lines = refl
 
 -- the record of a refused line is open in nothing
-refused : {line : List ℕ} (k : ℕ) (r : Refusal) → line_verdict line 77 ≡ Refused r → Record k line (decimal k ++ (32 ∷ 82 ∷ decimal (number r)) ++ (lf ∷ []))
+refused : {line : List ℕ} (k : ℕ) (r : Refusal) → line_verdict line 77 ≡ Err r → Record k line (decimal k ++ (32 ∷ 82 ∷ decimal (number r)) ++ (lf ∷ []))
 unfolding said Answers
 refused k r e = record { frame = []; answers = rw e tt; printed = rw e }
 

@@ -4,23 +4,22 @@ use Rattle.std.proofs.Common.{sym, add-zero, add_assoc, arith, length-append, ta
 use Rattle.text.specs.declared.Stream.{Stream}
 use Rattle.text.specs.Lines.{ended, left}
 use Rattle.text.specs.laws.Lines.{ended_append, left_append}
-use Rattle.text.specs.Streams.{Sound, Stands, Reached}
+use Rattle.text.specs.Streams.{Stands, Reached}
 
 -- a stream stands at least for what it holds, so that no promise about what it stands for is empty
-pub stands_itself : (s : Stream) → Sound s → Stands s s.lines (take s.held s.line)
-stands_itself s sound =
+pub stands_itself : (s : Stream) → Stands s s.lines (take s.held s.line)
+stands_itself s =
     let few : length (take s.held s.line) ≤ 49
-    = omega (arith, sound.within, sound.size, length-take-le s.held s.line (omega (arith, sound.within, sound.size))) in
-    record { sound = sound; counted = refl; held = sym (take_all 49 (take s.held s.line) few) }
+    = omega (arith, s.within, length-take-le s.held s.line (omega (arith, s.within, s.size))) in
+    record { counted = refl; held = sym (take_all 49 (take s.held s.line) few) }
 
-pub reached_none : (s : Stream) → Sound s → Reached s [] s
+pub reached_none : (s : Stream) → Reached s [] s
 unfolding ended left
-reached_none s sound = record { sound = sound; lines = omega arith; stands = λ lines p st. rw (add-zero lines) st }
+reached_none s = record { lines = omega arith; stands = λ lines p st. rw (add-zero lines) st }
 
 pub reached_append : {s t u : Stream} (a b : List ℕ) → Reached s a t → Reached t b u → Reached s (a ++ b) u
 reached_append a b first then =
     record {
-      sound = then.sound;
       lines = omega (arith, first.lines, then.lines, length-append a b);
       stands =
           λ lines p st.

@@ -37,9 +37,9 @@ whole_text st run = run_text run 0 [] st
 
 -- a part that has bytes is used at least in part, so that feeding it comes to an end
 pub feeds_progress
-    : {s : Stream} {part before : List ℕ} {r : Fed} {after : List ℕ} →
+    : {s t : Stream} {part before : List ℕ} {r : Fed} {after : List ℕ} →
     Ready s (length part) before →
-    Feeds s part before r after →
+    Feeds s part before t r after →
     0 < length part →
     0 < r.used
 feeds_progress {r = r} ready f some =

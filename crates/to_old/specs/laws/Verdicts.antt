@@ -1,5 +1,5 @@
 -- The verdict on a frame that goes back, and what is known of an accepted one. Assumes nothing.
-use Rattle.std.specs.Prelude.{ℕ, ◌≤◌, ◌≡◌, List, ◌++◌}
+use Rattle.std.specs.Prelude.{ℕ, ◌≤◌, ◌≡◌, List, ◌++◌, Err, Ok}
 use Rattle.std.proofs.Math.Path.{refl, sym, ap}
 use Rattle.std.proofs.Common.{◌∙◌, arith}
 use Rattle.std.proofs.Math.Option.{Option, none, some}
@@ -19,7 +19,6 @@ use Rattle.frame.specs.Checks.{frame_checked}
 use Rattle.frame.specs.laws.Checks.{frame_clear}
 use Rattle.to_old.specs.declared.Refusal.{Refusal}
 use Rattle.to_old.specs.declared.Refusal.TheVariants.{Faulty, Air}
-use Rattle.to_old.specs.declared.Verdict.TheVariants.{Accepted, Refused}
 use Rattle.to_old.specs.Refusals.{number}
 use Rattle.to_old.specs.Tests.{last_tests, verdict_by, frame_verdict}
 use Rattle.to_old.specs.Steps.{judged}
@@ -46,12 +45,12 @@ module _ (frame : List ℕ) (room : ℕ) where
   by_last o s e = ap (λ (q : Option Refusal). verdict_by q c) (split ∙ (λ k. or_else Faulty (s k) (e k)))
 
   -- a frame that passes tests 1 to 6, in the standard air, with room for its line
-  pub frame_accepts : first_of (frame_tests frame) ≡ none → c.air ≡ standard → 116 ≤ room → frame_verdict frame room ≡ Accepted c
+  pub frame_accepts : first_of (frame_tests frame) ≡ none → c.air ≡ standard → 116 ≤ room → frame_verdict frame room ≡ Ok c
   unfolding last_tests first_of
   frame_accepts s a r = by_last none s (simp (eq-eqb c.air standard a, le-ltb room 116 r))
 
   -- in another air it is refused, whatever the area
-  pub frame_refuses : first_of (frame_tests frame) ≡ none → (c.air ≡ standard → ⊥) → frame_verdict frame room ≡ Refused Air
+  pub frame_refuses : first_of (frame_tests frame) ≡ none → (c.air ≡ standard → ⊥) → frame_verdict frame room ≡ Err Air
   unfolding last_tests first_of
   frame_refuses s a = by_last (some Air) s (simp (ne_eqb c.air standard a))
 
@@ -63,11 +62,11 @@ pub record FrameTaken (frame : List ℕ) (room : ℕ) (c : Case) : Type 0 where
   pub air : (fields_of frame).air ≡ standard
   pub room_for : 116 ≤ room
 
-accepted_by : (o : Option Refusal) (d c : Case) → verdict_by o d ≡ Accepted c → (o ≡ none) × (c ≡ d)
+accepted_by : (o : Option Refusal) (d c : Case) → verdict_by o d ≡ Ok c → (o ≡ none) × (c ≡ d)
 accepted_by none d c h = (refl, cc)
 accepted_by (some r) d c h = let z : ◌≡◌ {A = ℕ} 0 1 = cc in absurd (omega arith)
 
-pub frame_accepted : (frame : List ℕ) (room : ℕ) (c : Case) → frame_verdict frame room ≡ Accepted c → FrameTaken frame room c
+pub frame_accepted : (frame : List ℕ) (room : ℕ) (c : Case) → frame_verdict frame room ≡ Ok c → FrameTaken frame room c
 unfolding frame_verdict last_tests
 frame_accepted frame room c h =
     let d = fields_of frame in
@@ -83,10 +82,10 @@ frame_accepted frame room c h =
     }
 
 -- a frame has no test 2
-pub frame_no_digit : (frame : List ℕ) (room : ℕ) → frame_verdict frame room ≡ Refused (Faulty Digit) → ⊥
+pub frame_no_digit : (frame : List ℕ) (room : ℕ) → frame_verdict frame room ≡ Err (Faulty Digit) → ⊥
 unfolding frame_verdict last_tests held frame_tests field_tests value_tests
 frame_no_digit frame room h = absent number (Faulty Digit) _ refl (by _ h)
   where
-    by : (o : Option Refusal) → verdict_by o (fields_of frame) ≡ Refused (Faulty Digit) → o ≡ some (Faulty Digit)
+    by : (o : Option Refusal) → verdict_by o (fields_of frame) ≡ Err (Faulty Digit) → o ≡ some (Faulty Digit)
     by none e = let z : ◌≡◌ {A = ℕ} 0 1 = cc in absurd (omega arith)
     by (some q) e = let s : q ≡ Faulty Digit = cc in ap {B = Option Refusal} some s

@@ -1,10 +1,6 @@
 -- `totals::afresh` meets its contract: the totals of the places passed. Assumes nothing.
-use Prim.Native.Nat.{◌-◌}
 use Rattle.totals.proofs.Scans.{Scanned}
 use Rattle.totals.proofs.afresh.Given as goal
 
 abbrev pub invariant-loop-i : goal.invariant-loop-i
-invariant-loop-i l = Scanned l.now l.t l.i
-
-abbrev pub decreases-loop-i : goal.decreases-loop-i
-decreases-loop-i l = 64 - l.i
+invariant-loop-i l = Scanned l.now l.totals l.i

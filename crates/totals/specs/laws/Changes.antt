@@ -1,9 +1,9 @@
 -- How the totals change as cases come and go. Assumes nothing.
 use Prim.Native.Nat.{ℕ, zero, suc, ◌+◌, ◌-◌, ◌≤◌, ◌<◌}
-use Rattle.std.specs.Prelude.{◌≡◌, refl, List, [], ◌∷◌, ◌++◌, length, get_or, set, eqb, ltb}
+use Rattle.std.specs.Prelude.{◌≡◌, refl, List, [], ◌∷◌, ◌++◌, length, get_or, set, eqb, ltb, Option, None, Some}
+use Rattle.std.proofs.lemmas.Option.{none-some}
 use Rattle.std.proofs.Math.Path.{sym}
 use Rattle.std.proofs.Common.{ap, ap₂, ◌∙◌, arith}
-use Rattle.std.proofs.Math.Option.{Option, none, some, none-ne-some}
 use borrow.Author.Tests.{eqb-true, eqb-false, eq-eqb, ne_eqb, ltb-true, ltb-false}
 use Rattle.exact.proofs.laws.Tests.{settle}
 use Rattle.places.specs.declared.Held.{Held}
@@ -22,10 +22,10 @@ module _ (xs : List (Option Held)) (h : Held) where
   overtakes
       : first_with h.upper 0 xs ≡ 0 →
       greatest xs ≤ h.upper →
-      totals_of (xs ++ (some h ∷ [])) ≡ record { cases = count xs + 1; greatest = h.upper; place = length xs + 1 }
+      totals_of (xs ++ (Some h ∷ [])) ≡ record { cases = count xs + 1; greatest = h.upper; place = length xs + 1 }
   unfolding totals_of
   overtakes none_yet l =
-      let most : greatest (xs ++ (some h ∷ [])) ≡ h.upper = omega (arith, greatest_case xs h) in
+      let most : greatest (xs ++ (Some h ∷ [])) ≡ h.upper = omega (arith, greatest_case xs h) in
       rw (count_case xs h, most, first_next 0 xs h none_yet)
       (ap₂ (λ (n k : ℕ). record { cases = n; greatest = h.upper; place = k }) (omega arith) (omega arith))
 
@@ -33,14 +33,14 @@ module _ (xs : List (Option Held)) (h : Held) where
   stays
       : 0 < count xs →
       h.upper ≤ greatest xs →
-      totals_of (xs ++ (some h ∷ [])) ≡ record { cases = count xs + 1; greatest = greatest xs; place = first_with (greatest xs) 0 xs }
+      totals_of (xs ++ (Some h ∷ [])) ≡ record { cases = count xs + 1; greatest = greatest xs; place = first_with (greatest xs) 0 xs }
   unfolding totals_of
   stays some_left l =
-      let same : greatest (xs ++ (some h ∷ [])) ≡ greatest xs = omega (arith, greatest_case xs h) in
+      let same : greatest (xs ++ (Some h ∷ [])) ≡ greatest xs = omega (arith, greatest_case xs h) in
       rw (count_case xs h, same, kept (first_with (greatest xs) 0 xs) refl)
       (ap (λ (n : ℕ). record { cases = n; greatest = greatest xs; place = first_with (greatest xs) 0 xs }) (omega arith))
     where
-      kept : (s : ℕ) → first_with (greatest xs) 0 xs ≡ s → first_with (greatest xs) 0 (xs ++ (some h ∷ [])) ≡ first_with (greatest xs) 0 xs
+      kept : (s : ℕ) → first_with (greatest xs) 0 xs ≡ s → first_with (greatest xs) 0 (xs ++ (Some h ∷ [])) ≡ first_with (greatest xs) 0 xs
       kept zero e = absurd (first_nowhere (greatest xs) 0 xs e some_left refl)
       kept (suc j) e = first_found (greatest xs) 0 xs h j e ∙ sym e
 
@@ -63,33 +63,33 @@ module _ (xs : List (Option Held)) (h : Held) where
 -- a hole in the place of a case that is not the one shown
 totals_set
     : (xs : List (Option Held)) (i : ℕ) (h : Held) →
-    get_or xs i none ≡ some h →
+    get_or xs i None ≡ Some h →
     ((totals_of xs).place ≡ suc i → ⊥) →
-    totals_of (set xs i none) ≡ excluding (totals_of xs)
+    totals_of (set xs i None) ≡ excluding (totals_of xs)
 unfolding totals_of
 totals_set xs i h e other =
     rw (most, same)
     (ap (λ (n : ℕ). record { cases = n; greatest = greatest xs; place = first_with (greatest xs) 0 xs }) (omega (arith, count_set xs i h e)))
   where
-    same : first_with (greatest xs) 0 (set xs i none) ≡ first_with (greatest xs) 0 xs
+    same : first_with (greatest xs) 0 (set xs i None) ≡ first_with (greatest xs) 0 xs
     same = first_set (greatest xs) 0 xs i (λ e. other (e ∙ ap suc (omega arith)))
 
-    reached : (s : ℕ) → first_with (greatest xs) 0 xs ≡ s → greatest xs ≤ greatest (set xs i none)
+    reached : (s : ℕ) → first_with (greatest xs) 0 xs ≡ s → greatest xs ≤ greatest (set xs i None)
     reached zero f = absurd (first_nowhere (greatest xs) 0 xs f (omega (arith, count_set xs i h e)) refl)
-    reached (suc j) f = first_bound (greatest xs) 0 (set xs i none) j (same ∙ f)
+    reached (suc j) f = first_bound (greatest xs) 0 (set xs i None) j (same ∙ f)
 
-    most : greatest (set xs i none) ≡ greatest xs
+    most : greatest (set xs i None) ≡ greatest xs
     most = omega (arith, greatest_set xs i, reached (first_with (greatest xs) 0 xs) refl)
 
 -- a case withdrawn that is not the one shown
 totals_withdrawn
     : (xs : List (Option Held)) (k : ℕ) (h : Held) →
-    at xs k ≡ some h →
+    at xs k ≡ Some h →
     ((totals_of xs).place ≡ k → ⊥) →
     totals_of (withdrawn xs k) ≡ excluding (totals_of xs)
 unfolding at withdrawn
-totals_withdrawn xs zero h e other = absurd (none-ne-some h e)
-totals_withdrawn xs (suc i) h e other = totals_trim (set xs i none) ∙ totals_set xs i h e other
+totals_withdrawn xs zero h e other = absurd (none-some h e)
+totals_withdrawn xs (suc i) h e other = totals_trim (set xs i None) ∙ totals_set xs i h e other
 
 -- a case went: the one shown, another
 
@@ -115,7 +115,7 @@ module _ (t : Totals) (now : Places) (xs : List (Option Held)) (right : t ≡ to
   right_added k h list last =
       settle (ltb t.cases 64) (λ e. rw e (rw (right, last, list) (sym (totals_added xs h)))) (λ e. rw e)
 
-  pub right_withdrawn : (k : ℕ) (h : Held) → at xs k ≡ some h → stands_for now ≡ withdrawn xs k → after_withdrawing t now k ≡ totals_of (stands_for now)
+  pub right_withdrawn : (k : ℕ) (h : Held) → at xs k ≡ Some h → stands_for now ≡ withdrawn xs k → after_withdrawing t now k ≡ totals_of (stands_for now)
   right_withdrawn k h there list =
       settle (eqb t.place k)
       (λ e. sym (shown_went t now k (eqb-true t.place k e)))

@@ -1,7 +1,6 @@
 -- Totals worked on the definitions. Assumes nothing.
-use Rattle.std.specs.Prelude.{ℕ, ◌≡◌, [], ◌∷◌}
+use Rattle.std.specs.Prelude.{ℕ, ◌≡◌, [], ◌∷◌, None, Some}
 use Rattle.std.proofs.Math.Path.{refl}
-use Rattle.std.proofs.Math.Option.{none, some}
 use Rattle.guidance.specs.declared.Case.{Case}
 use Rattle.places.specs.declared.Held.{Held}
 use Rattle.places.specs.Holes.{ahead, trim, withdrawn, closed}
@@ -17,22 +16,22 @@ module _ (c : Case) where
   with u = record { case = c; upper = u }
 
   -- the first of two places that have the greatest
-  pub first_of_two : totals_of (some (with 5) ∷ none ∷ some (with 9) ∷ some (with 9) ∷ []) ≡ record { cases = 3; greatest = 9; place = 3 }
+  pub first_of_two : totals_of (Some (with 5) ∷ None ∷ Some (with 9) ∷ Some (with 9) ∷ []) ≡ record { cases = 3; greatest = 9; place = 3 }
   unfolding totals_of count greatest first_with
   first_of_two = refl
 
   -- it is withdrawn, and the other is shown; closed up, its place is another
   pub other_shown
-      : totals_of (withdrawn (some (with 5) ∷ none ∷ some (with 9) ∷ some (with 9) ∷ []) 3) ≡ record { cases = 2; greatest = 9; place = 4 }
+      : totals_of (withdrawn (Some (with 5) ∷ None ∷ Some (with 9) ∷ Some (with 9) ∷ []) 3) ≡ record { cases = 2; greatest = 9; place = 4 }
   unfolding totals_of count greatest first_with withdrawn trim ahead
   other_shown = refl
 
   pub closed_up
-      : totals_of (closed (some (with 5) ∷ none ∷ some (with 9) ∷ some (with 9) ∷ [])) ≡ record { cases = 3; greatest = 9; place = 2 }
+      : totals_of (closed (Some (with 5) ∷ None ∷ Some (with 9) ∷ Some (with 9) ∷ [])) ≡ record { cases = 3; greatest = 9; place = 2 }
   unfolding totals_of count greatest first_with closed
   closed_up = refl
 
   -- an upper end of 0 is a case as any other
-  pub zero_is_an_end : totals_of (some (with 0) ∷ []) ≡ record { cases = 1; greatest = 0; place = 1 }
+  pub zero_is_an_end : totals_of (Some (with 0) ∷ []) ≡ record { cases = 1; greatest = 0; place = 1 }
   unfolding totals_of count greatest first_with
   zero_is_an_end = refl

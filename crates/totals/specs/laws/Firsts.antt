@@ -1,7 +1,6 @@
 -- Laws of the first place that has an upper end. Assumes nothing.
-use Rattle.std.specs.Prelude.{ℕ, zero, suc, ◌+◌, ◌≤◌, ◌<◌, ◌≡◌, refl, List, [], ◌∷◌, ◌++◌, length, set, eqb}
+use Rattle.std.specs.Prelude.{ℕ, zero, suc, ◌+◌, ◌≤◌, ◌<◌, ◌≡◌, refl, List, [], ◌∷◌, ◌++◌, length, set, eqb, Option, None, Some}
 use Rattle.std.proofs.Common.{ap, ◌∙◌, arith, eqb-true, eq-eqb}
-use Rattle.std.proofs.Math.Option.{Option, none, some}
 use Rattle.std.proofs.lemmas.Bool.{eqb-false}
 use Rattle.exact.proofs.laws.Tests.{settle}
 use Rattle.places.specs.declared.Held.{Held}
@@ -12,8 +11,8 @@ use Rattle.totals.specs.laws.Counts.{greatest_none}
 pub first_bound : (u k : ℕ) (xs : List (Option Held)) (j : ℕ) → first_with u k xs ≡ suc j → u ≤ greatest xs
 unfolding first_with greatest
 first_bound u k [] j e = absurd (omega arith)
-first_bound u k (none ∷ xs) j e = first_bound u (suc k) xs j e
-first_bound u k (some h ∷ xs) j e =
+first_bound u k (None ∷ xs) j e = first_bound u (suc k) xs j e
+first_bound u k (Some h ∷ xs) j e =
     settle (eqb h.upper u)
     (λ t. omega (arith, eqb-true h.upper u t))
     (λ t. omega (arith, first_bound u (suc k) xs j (rw t at e)))
@@ -22,8 +21,8 @@ first_bound u k (some h ∷ xs) j e =
 pub first_nowhere : (u k : ℕ) (xs : List (Option Held)) → first_with u k xs ≡ 0 → 0 < count xs → greatest xs ≡ u → ⊥
 unfolding first_with greatest count
 first_nowhere u k [] e l g = omega arith
-first_nowhere u k (none ∷ xs) e l g = first_nowhere u (suc k) xs e l g
-first_nowhere u k (some h ∷ xs) e l g =
+first_nowhere u k (None ∷ xs) e l g = first_nowhere u (suc k) xs e l g
+first_nowhere u k (Some h ∷ xs) e l g =
     settle (eqb h.upper u)
     (λ t. let f : suc k ≡ 0 = rw t at e in omega arith)
     (λ t.
@@ -40,8 +39,8 @@ first_nowhere u k (some h ∷ xs) e l g =
 pub first_none : (u k : ℕ) (xs : List (Option Held)) → count xs ≡ 0 → first_with u k xs ≡ 0
 unfolding first_with count
 first_none u k [] e = refl
-first_none u k (none ∷ xs) e = first_none u (suc k) xs e
-first_none u k (some h ∷ xs) e = absurd (omega arith)
+first_none u k (None ∷ xs) e = first_none u (suc k) xs e
+first_none u k (Some h ∷ xs) e = absurd (omega arith)
 
 -- above all, no place
 pub first_above : (u k : ℕ) (xs : List (Option Held)) → greatest xs < u → first_with u k xs ≡ 0
@@ -53,11 +52,11 @@ first_above u k xs l = by (first_with u k xs) refl
 
 -- a place that is found stays the first
 pub first_found
-    : (u k : ℕ) (xs : List (Option Held)) (h : Held) (j : ℕ) → first_with u k xs ≡ suc j → first_with u k (xs ++ (some h ∷ [])) ≡ suc j
+    : (u k : ℕ) (xs : List (Option Held)) (h : Held) (j : ℕ) → first_with u k xs ≡ suc j → first_with u k (xs ++ (Some h ∷ [])) ≡ suc j
 unfolding first_with
 first_found u k [] h j e = absurd (omega arith)
-first_found u k (none ∷ xs) h j e = first_found u (suc k) xs h j e
-first_found u k (some g ∷ xs) h j e =
+first_found u k (None ∷ xs) h j e = first_found u (suc k) xs h j e
+first_found u k (Some g ∷ xs) h j e =
     settle (eqb g.upper u)
     (λ t. rw t (rw t at e))
     (λ t. rw t (first_found u (suc k) xs h j (rw t at e)))
@@ -66,27 +65,27 @@ first_found u k (some g ∷ xs) h j e =
 pub first_next
     : (k : ℕ) (xs : List (Option Held)) (h : Held) →
     first_with h.upper k xs ≡ 0 →
-    first_with h.upper k (xs ++ (some h ∷ [])) ≡ suc (k + length xs)
+    first_with h.upper k (xs ++ (Some h ∷ [])) ≡ suc (k + length xs)
 unfolding first_with
 first_next k [] h e = rw (eq-eqb h.upper h.upper refl) (ap suc (omega arith))
-first_next k (none ∷ xs) h e = first_next (suc k) xs h e ∙ ap suc (omega arith)
-first_next k (some g ∷ xs) h e =
+first_next k (None ∷ xs) h e = first_next (suc k) xs h e ∙ ap suc (omega arith)
+first_next k (Some g ∷ xs) h e =
     settle (eqb g.upper h.upper)
     (λ t. let f : suc k ≡ 0 = rw t at e in absurd (omega arith))
     (λ t. rw t (first_next (suc k) xs h (rw t at e) ∙ ap suc (omega arith)))
 
 -- a hole elsewhere changes no first place
 pub first_set
-    : (u k : ℕ) (xs : List (Option Held)) (i : ℕ) → (first_with u k xs ≡ suc (k + i) → ⊥) → first_with u k (set xs i none) ≡ first_with u k xs
+    : (u k : ℕ) (xs : List (Option Held)) (i : ℕ) → (first_with u k xs ≡ suc (k + i) → ⊥) → first_with u k (set xs i None) ≡ first_with u k xs
 unfolding first_with
 first_set u k [] i e = refl
-first_set u k (none ∷ xs) zero e = refl
-first_set u k (some h ∷ xs) zero e =
+first_set u k (None ∷ xs) zero e = refl
+first_set u k (Some h ∷ xs) zero e =
     settle (eqb h.upper u)
     (λ t. absurd (e (rw t (ap suc (omega arith)))))
     (λ t. rw t)
-first_set u k (none ∷ xs) (suc i) e = first_set u (suc k) xs i (λ f. e (f ∙ ap suc (omega arith)))
-first_set u k (some h ∷ xs) (suc i) e =
+first_set u k (None ∷ xs) (suc i) e = first_set u (suc k) xs i (λ f. e (f ∙ ap suc (omega arith)))
+first_set u k (Some h ∷ xs) (suc i) e =
     settle (eqb h.upper u)
     (λ t. rw t)
     (λ t. rw t (first_set u (suc k) xs i (λ f. e (rw t (f ∙ ap suc (omega arith))))))

@@ -2,10 +2,10 @@
 -- the whole number m, which is the one that the test picks
 use mathlib.Core.Bool.{cond}
 use Prim.Native.Nat.{ℕ, ◌≤◌}
-use mathlib.Core.Path.{◌≡◌, sym, subst}
+use mathlib.Core.Path.{◌≡◌, refl, subst}
 use native.Mathlib.Omega.{arith}
 use lib.Dec.{eqb}
-use borrow.Author.Tests.{eq-eqb, ne_eqb}
+use borrow.Author.Tests.{ne_eqb}
 use Rattle.exact.specs.Fraction.{whole, of_ratio}
 use Rattle.span.specs.declared.Span.{Span}
 use Rattle.span.specs.Spans.{Constant}
@@ -14,7 +14,6 @@ use Rattle.guidance.specs.Waves.{number}
 use Rattle.waves.specs.EndBounds.{constant_lower, lower_coarser}
 use Rattle.waves.specs.Coefficients.{factor_43, factor_26}
 use Rattle.waves.specs.Fronts.{Factor}
-use Rattle.waves.proofs.Choices.{picked, passed}
 use Rattle.waves.proofs.factor.Goals as goal
 
 factor-is : (range : ℕ) (m k : ℕ) {s : Span} → Constant (of_ratio (whole m)) k s → m ≡ cond (eqb range 5) 43 26 → 998 ≤ k → m ≤ 43 → Factor range s
@@ -28,10 +27,10 @@ factor-is range m k {s} c h l u =
       most = lower_coarser (constant_lower (whole m) c) (omega arith) (omega arith);
     }
 
-pub returns-then-range-eq5 : goal.returns-then-range-eq5
-returns-then-range-eq5 c =
-    factor-is _ 43 999 factor_43 (sym (picked _ 43 26 (eq-eqb _ 5 c.if-range-eq5.true))) (omega arith) (omega arith)
+pub returns-in-5 : goal.returns-in-5
+returns-in-5 c =
+    factor-is _ 43 999 factor_43 (rw c.in-5.is refl) (omega arith) (omega arith)
 
-pub returns-else-range-eq5 : goal.returns-else-range-eq5
-returns-else-range-eq5 c =
-    factor-is _ 26 998 factor_26 (sym (passed _ 43 26 (ne_eqb _ 5 c.if-range-eq5.false))) (omega arith) (omega arith)
+pub returns-in_default : goal.returns-in_default
+returns-in_default c =
+    factor-is _ 26 998 factor_26 (rw (ne_eqb c.args.range 5 λ h. omega (arith, c.in_default)) refl) (omega arith) (omega arith)

@@ -14,7 +14,7 @@ use Rattle.enclosure.specs.Enclosing.{expo_encloses}
 use Rattle.guidance.specs.Waves.{thousandths, ten_thousandths, gas_impulse}
 use Rattle.waves.specs.Coefficients.{impulse_start, impulse_start_lem}
 use Rattle.waves.specs.Gas.{Logged, GasImpulse}
-use Rattle.waves.proofs.Exponents.{impulse_most, impulse_least, upper_point, upper_most, upper_least, scales, squares, square_small, square_scales, square_width}
+use Rattle.waves.proofs.Exponents.{impulse_most, impulse_least, upper_point, upper_most, upper_least, square_small, square_scales, square_width}
 use Rattle.waves.proofs.gas_impulse.Goals as goal
 
 start_small : Small impulse_start (4 * 2 ^ 30)
@@ -88,23 +88,17 @@ module _ {l first square second start : Log} {i j : ℕ} (x : Logged l) (f : Sca
 
 pub returns : goal.returns
 returns c =
-    result c.requires c.ten_thousandths-first.ensures c.product-square.ensures c.ten_thousandths-second.ensures c.sub-start.ensures refl refl
-    c.sub-y.ensures c.expo.ensures
+    result c.requires c.scaled-first.ensures c.mul.ensures c.scaled-second.ensures c.sub.ensures refl refl
+    c.sub-2.ensures c.expo.ensures
 
-pub ten_thousandths-first-requires : goal.ten_thousandths-first-requires
-ten_thousandths-first-requires c = scales c.requires _ (omega arith)
+pub scaled-second-requires-clause-factors : goal.scaled-second-requires-clause-factors
+scaled-second-requires-clause-factors c = square_scales c.requires c.mul.ensures _ (omega arith)
 
-pub product-square-requires : goal.product-square-requires
-product-square-requires c = squares c.requires
+pub sub-requires : goal.sub-requires
+sub-requires c = starts c.requires c.scaled-first.ensures refl
 
-pub ten_thousandths-second-requires : goal.ten_thousandths-second-requires
-ten_thousandths-second-requires c = square_scales c.requires c.product-square.ensures _ (omega arith)
-
-pub sub-start-requires : goal.sub-start-requires
-sub-start-requires c = starts c.requires c.ten_thousandths-first.ensures refl
-
-pub sub-y-requires : goal.sub-y-requires
-sub-y-requires c = rest c.requires c.ten_thousandths-first.ensures c.product-square.ensures c.ten_thousandths-second.ensures c.sub-start.ensures refl refl
+pub sub-requires-2 : goal.sub-requires-2
+sub-requires-2 c = rest c.requires c.scaled-first.ensures c.mul.ensures c.scaled-second.ensures c.sub.ensures refl refl
 
 pub expo-requires : goal.expo-requires
-expo-requires c = exponent c.requires c.ten_thousandths-first.ensures c.product-square.ensures c.ten_thousandths-second.ensures c.sub-start.ensures refl refl c.sub-y.ensures
+expo-requires c = exponent c.requires c.scaled-first.ensures c.mul.ensures c.scaled-second.ensures c.sub.ensures refl refl c.sub-2.ensures

@@ -14,7 +14,7 @@ use Rattle.enclosure.specs.Enclosing.{expo_encloses}
 use Rattle.guidance.specs.Waves.{hundredths, gas_pressure}
 use Rattle.waves.specs.Coefficients.{pressure_start, pressure_start_lem}
 use Rattle.waves.specs.Gas.{Near, GasPressure}
-use Rattle.waves.proofs.Exponents.{pressure_most, pressure_least, upper_point, upper_most, upper_least, scales, squares, square_small, square_scales, square_width}
+use Rattle.waves.proofs.Exponents.{pressure_most, pressure_least, upper_point, upper_most, upper_least, square_small, square_scales, square_width}
 use Rattle.waves.proofs.gas_pressure.Goals as goal
 
 start_small : Small pressure_start (2 * 2 ^ 30)
@@ -88,23 +88,17 @@ module _ {l first square second start : Log} {i j : ℕ} (x : Near l) (f : Scale
 
 pub returns : goal.returns
 returns c =
-    result c.requires c.ten_thousandths-first.ensures c.product-square.ensures c.ten_thousandths-second.ensures c.sub-start.ensures refl refl
-    c.add-y.ensures c.expo.ensures
+    result c.requires c.scaled-first.ensures c.mul.ensures c.scaled-second.ensures c.sub.ensures refl refl
+    c.add.ensures c.expo.ensures
 
-pub ten_thousandths-first-requires : goal.ten_thousandths-first-requires
-ten_thousandths-first-requires c = scales c.requires.logged _ (omega arith)
+pub scaled-second-requires-clause-factors : goal.scaled-second-requires-clause-factors
+scaled-second-requires-clause-factors c = square_scales c.requires.logged c.mul.ensures _ (omega arith)
 
-pub product-square-requires : goal.product-square-requires
-product-square-requires c = squares c.requires.logged
+pub sub-requires : goal.sub-requires
+sub-requires c = starts c.requires c.scaled-first.ensures refl
 
-pub ten_thousandths-second-requires : goal.ten_thousandths-second-requires
-ten_thousandths-second-requires c = square_scales c.requires.logged c.product-square.ensures _ (omega arith)
-
-pub sub-start-requires : goal.sub-start-requires
-sub-start-requires c = starts c.requires c.ten_thousandths-first.ensures refl
-
-pub add-y-requires : goal.add-y-requires
-add-y-requires c = adds c.requires c.ten_thousandths-first.ensures c.product-square.ensures c.ten_thousandths-second.ensures c.sub-start.ensures refl refl
+pub add-requires : goal.add-requires
+add-requires c = adds c.requires c.scaled-first.ensures c.mul.ensures c.scaled-second.ensures c.sub.ensures refl refl
 
 pub expo-requires : goal.expo-requires
-expo-requires c = exponent c.requires c.ten_thousandths-first.ensures c.product-square.ensures c.ten_thousandths-second.ensures c.sub-start.ensures refl refl c.add-y.ensures
+expo-requires c = exponent c.requires c.scaled-first.ensures c.mul.ensures c.scaled-second.ensures c.sub.ensures refl refl c.add.ensures

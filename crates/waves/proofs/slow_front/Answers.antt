@@ -50,9 +50,9 @@ smaller-front f g s =
 
 pub mul-v-requires : goal.mul-v-requires
 mul-v-requires c =
-    factors c.factor-f.ensures c.sixth_root-root.ensures
+    factors c.factor.ensures c.sixth_root.ensures
 
 pub returns : goal.returns
 unfolding slow_front
 returns c =
-    smaller-front (by-mass c.factor-f.ensures c.sixth_root-root.ensures c.mul-v.ensures) c.range_end-end.ensures c.lesser.ensures
+    smaller-front (by-mass c.factor.ensures c.sixth_root.ensures c.mul-v.ensures) c.range_end-end.ensures c.lesser.ensures

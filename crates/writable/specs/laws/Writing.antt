@@ -1,5 +1,5 @@
 -- What was written of a case, from what its own tests found, and what is known of an accepted one. Assumes nothing.
-use Rattle.std.specs.Prelude.{ℕ, ◌≤◌, ◌≡◌, refl, Bool, true, false, cond, List, ◌++◌, ltb, length, take, drop}
+use Rattle.std.specs.Prelude.{ℕ, ◌≤◌, ◌≡◌, refl, Bool, true, false, cond, List, ◌++◌, ltb, length, take, drop, Err, Ok}
 use Rattle.std.proofs.Common.{sym, ap, subst, ◌∙◌, arith, ltb-false}
 use Rattle.std.proofs.Math.Option.{Option, none, some}
 use Rattle.std.proofs.lemmas.List.Edits.{sets}
@@ -8,12 +8,10 @@ use Rattle.byte_numbers.specs.laws.Storing.{at_start}
 use Rattle.guidance.specs.declared.Case.{Case}
 use Rattle.refusals.specs.declared.Fault.{Fault}
 use Rattle.refusals.specs.Order.{Test, first_of}
-use Rattle.limits.specs.declared.Checked.{Checked}
-use Rattle.limits.specs.declared.Checked.TheVariants.{Sound, Unsound}
+use Rattle.limits.specs.Checked.{Checked}
 use Rattle.limits.specs.Checks.{checked_by}
 use Rattle.writable.specs.declared.Refusal.TheVariants.{Space}
-use Rattle.writable.specs.declared.Verdict.{Verdict}
-use Rattle.writable.specs.declared.Verdict.TheVariants.{Accepted, Refused}
+use Rattle.writable.specs.Verdict.{Verdict}
 use Rattle.writable.specs.Verdicts.{writable_verdict}
 use Rattle.writable.specs.Writing.{with_text, Writes}
 use Rattle.writable.specs.Steps.{placed, needed_for, Written}
@@ -21,7 +19,7 @@ use Rattle.writable.specs.laws.Verdicts.{space_last, accepted}
 
 -- what is needed decides by the case alone
 pub needed_alike : (o : Option Fault) (c : Case) (f g : Case → ℕ) (room : ℕ) → f c ≡ g c → placed (checked_by o c) f room ≡ placed (checked_by o c) g room
-needed_alike none c f g room e = ap (λ (n : ℕ). cond (ltb room n) (Refused Space) (Accepted c)) e
+needed_alike none c f g room e = ap (λ (n : ℕ). cond (ltb room n) (Err Space) (Ok c)) e
 needed_alike (some q) c f g room e = refl
 
 -- what `place` gave for the bytes that are needed, u, is what the text asks for
@@ -30,19 +28,19 @@ module _ (text : Case → List ℕ) (s : Checked) {needed : ℕ} (enough : neede
   by_length room = go s enough
     where
       go : (t : Checked) → needed ≡ needed_for text t → placed t (λ (c : Case). needed) room ≡ placed t (λ (c : Case). length (text c)) room
-      go (Sound c) e = ap (λ (n : ℕ). cond (ltb room n) (Refused Space) (Accepted c)) e
-      go (Unsound f) e = refl
+      go (Ok c) e = ap (λ (n : ℕ). cond (ltb room n) (Err Space) (Ok c)) e
+      go (Err f) e = refl
 
-  pub has_room : (room : ℕ) {u : Verdict} {c : Case} → u ≡ placed s (λ (d : Case). needed) room → u ≡ Accepted c → length (text c) ≤ room
+  pub has_room : (room : ℕ) {u : Verdict} {c : Case} → u ≡ placed s (λ (d : Case). needed) room → u ≡ Ok c → length (text c) ≤ room
   has_room room {u} {c} p e = go s (sym (by_length room) ∙ sym p ∙ e)
     where
-      by : (d : Case) (b : Bool) → ltb room (length (text d)) ≡ b → cond b (Refused Space) (Accepted d) ≡ Accepted c → length (text c) ≤ room
+      by : (d : Case) (b : Bool) → ltb room (length (text d)) ≡ b → cond b (Err Space) (Ok d) ≡ Ok c → length (text c) ≤ room
       by d true e h = let z : ◌≡◌ {A = ℕ} 0 1 = cc in absurd (omega arith)
       by d false e h = let same : d ≡ c = cc in subst (λ (k : Case). length (text k) ≤ room) same (ltb-false room (length (text d)) e)
 
-      go : (t : Checked) → placed t (λ (d : Case). length (text d)) room ≡ Accepted c → length (text c) ≤ room
-      go (Sound d) h = by d (ltb room (length (text d))) refl h
-      go (Unsound f) h = let z : ◌≡◌ {A = ℕ} 0 1 = cc in absurd (omega arith)
+      go : (t : Checked) → placed t (λ (d : Case). length (text d)) room ≡ Ok c → length (text c) ≤ room
+      go (Ok d) h = by d (ltb room (length (text d))) refl h
+      go (Err f) h = let z : ◌≡◌ {A = ℕ} 0 1 = cc in absurd (omega arith)
 
   pub told : (before : List ℕ) {u v : Verdict} {after : List ℕ}
       → u ≡ placed s (λ (c : Case). needed) (length before)
@@ -67,7 +65,7 @@ pub record Placed (text : Case → List ℕ) (tests : List (Test Fault)) (c d : 
   pub start : take (length (text c)) after ≡ text c
 
 pub placed_text : {text : Case → List ℕ} (tests : List (Test Fault)) (c : Case) {d : Case} {before after : List ℕ}
-    → Writes text (writable_verdict text tests c (length before)) before (Accepted d) after
+    → Writes text (writable_verdict text tests c (length before)) before (Ok d) after
     → Placed text tests c d after
 unfolding writable_verdict
 placed_text {text} tests c {d} {before} {after} w =

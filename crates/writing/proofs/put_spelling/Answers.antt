@@ -1,13 +1,7 @@
--- `writing::put_spelling` meets its contract: the digits of the frame of the case as it is spelled. Assumes nothing.
--- the frame of d, c as it is spelled, fills an array of its length
-use Prim.Native.Nat.{ℕ, ◌*◌, ◌≤◌}
-use mathlib.Core.Path.{◌≡◌, sym, ap, ◌∙◌}
-use mathlib.Core.List.{List}
-use native.Mathlib.Omega.{arith}
-use lib.ListN.{length, replicate, length-replicate}
-use lib.Seq.{sets}
+-- The digits of the frame of the case as it is spelled, of 22 bytes or of 24.
+use Rattle.std.proofs.Common.{◌≡◌, ◌≤◌, ◌*◌, ℕ, ap, ◌∙◌, List, length, arith}
+use Rattle.std.proofs.lemmas.List.Edits.{sets}
 use Rattle.guidance.specs.declared.Case.{Case}
-use Rattle.byte_numbers.specs.laws.Storing.{sets_all}
 use Rattle.hexadecimals.specs.Written.{digits_of}
 use Rattle.hexadecimals.specs.laws.Writing.{length_digits}
 use Rattle.fields.specs.Bytes.{frame_bytes}
@@ -15,40 +9,28 @@ use Rattle.fields.specs.laws.Back.{standard_length, other_length}
 use Rattle.writing.specs.Spelling.{as_spelled, spelling}
 use Rattle.writing.proofs.put_spelling.Goals as goal
 
-module _ (c d : Case) (n : ℕ) {full : List ℕ} (long : length (frame_bytes d) ≡ n) (stored : full ≡ sets (replicate n 0) 0 (frame_bytes d)) (is : d ≡ as_spelled c) where
-  filled : full ≡ frame_bytes (as_spelled c)
-  filled = stored ∙ sets_all (replicate n 0) (frame_bytes d) (long ∙ sym (length-replicate n 0)) ∙ ap frame_bytes is
-
-  spelled : digits_of full ≡ spelling c
+module _ (c d : Case) (is : d ≡ as_spelled c) where
+  spelled : digits_of (frame_bytes d) ≡ spelling c
   unfolding spelling
-  spelled = ap digits_of filled
+  spelled = ap (λ (k : Case). digits_of (frame_bytes k)) is
 
-  room : (area : List ℕ) → length (spelling c) ≤ length area → 2 * length full ≤ length area
-  unfolding spelling
-  room area h = omega (arith, ap length filled, length_digits (frame_bytes (as_spelled c)), h)
+  room : (n : ℕ) (area : List ℕ) → length (frame_bytes d) ≡ n → length (spelling c) ≤ length area → 2 * n ≤ length area
+  room n area e h = omega (arith, e, length_digits (frame_bytes d), ap length spelled, h)
 
-pub write-requires : goal.write-requires
-write-requires c =
-    omega (arith, standard_length c.as_spelled-spelled.result c.if-spelled-eq-STANDARD.true)
+pub put_digits-requires : goal.put_digits-requires
+put_digits-requires c =
+    let long = standard_length _ c.if-spelled-eq-STANDARD.true in
+    (long, room _ _ c.as_spelled-spelled.ensures 22 c.args.area.now long c.requires)
 
-pub write-requires-then-spelled-eq-STANDARD : goal.write-requires-then-spelled-eq-STANDARD
-write-requires-then-spelled-eq-STANDARD c =
-    room _ _ 22 (standard_length _ c.if-spelled-eq-STANDARD.true) c.write.ensures c.as_spelled-spelled.ensures c.args.area.now c.requires
-
-pub write-requires-else-spelled-eq-STANDARD : goal.write-requires-else-spelled-eq-STANDARD
-write-requires-else-spelled-eq-STANDARD c =
-    omega (arith, other_length c.as_spelled-spelled.result c.if-spelled-eq-STANDARD.false)
-
-pub write-requires-else-spelled-eq-STANDARD-2 : goal.write-requires-else-spelled-eq-STANDARD-2
-write-requires-else-spelled-eq-STANDARD-2 c =
-    room _ _ 24 (other_length _ c.if-spelled-eq-STANDARD.false) c.write-else-spelled-eq-STANDARD.ensures c.as_spelled-spelled.ensures c.args.area.now c.requires
+pub put_digits-requires-else-spelled-eq-STANDARD : goal.put_digits-requires-else-spelled-eq-STANDARD
+put_digits-requires-else-spelled-eq-STANDARD c =
+    let long = other_length _ c.if-spelled-eq-STANDARD.false in
+    (long, room _ _ c.as_spelled-spelled.ensures 24 c.args.area.now long c.requires)
 
 pub returns-then-spelled-eq-STANDARD : goal.returns-then-spelled-eq-STANDARD
 returns-then-spelled-eq-STANDARD c =
-    c.write-then-spelled-eq-STANDARD.ensures
-    ∙ ap (sets c.args.area.now 0) (spelled _ _ 22 (standard_length _ c.if-spelled-eq-STANDARD.true) c.write.ensures c.as_spelled-spelled.ensures)
+    c.put_digits.ensures ∙ ap (sets c.args.area.now 0) (spelled _ _ c.as_spelled-spelled.ensures)
 
 pub returns-else-spelled-eq-STANDARD : goal.returns-else-spelled-eq-STANDARD
 returns-else-spelled-eq-STANDARD c =
-    c.write-else-spelled-eq-STANDARD-2.ensures
-    ∙ ap (sets c.args.area.now 0) (spelled _ _ 24 (other_length _ c.if-spelled-eq-STANDARD.false) c.write-else-spelled-eq-STANDARD.ensures c.as_spelled-spelled.ensures)
+    c.put_digits-else-spelled-eq-STANDARD.ensures ∙ ap (sets c.args.area.now 0) (spelled _ _ c.as_spelled-spelled.ensures)

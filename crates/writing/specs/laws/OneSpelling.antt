@@ -1,5 +1,5 @@
 -- What is written is read back, spelling twice is spelling once, and one spelling is one case. Assumes nothing.
-use Rattle.std.specs.Prelude.{ℕ, ◌≤◌, ◌≡◌, ◌↔◌, List, length, take}
+use Rattle.std.specs.Prelude.{ℕ, ◌≤◌, ◌≡◌, ◌↔◌, List, length, take, Ok}
 use Rattle.std.proofs.Common.{sym, ap, ◌∙◌, subst}
 use Rattle.std.proofs.Math.Option.{none}
 use Rattle.guidance.specs.declared.Case.{Case}
@@ -14,8 +14,7 @@ use Rattle.limits.specs.laws.Fields.{heated_passes}
 use Rattle.limits.specs.laws.Checks.{heated_by_lem}
 use Rattle.frame.specs.Tests.{frame_tests, line_tests}
 use Rattle.frame.specs.laws.Checks.{frame_passes, frame_clear, line_clear}
-use Rattle.writable.specs.declared.Verdict.{Verdict}
-use Rattle.writable.specs.declared.Verdict.TheVariants.{Accepted}
+use Rattle.writable.specs.Verdict.{Verdict}
 use Rattle.writable.specs.Verdicts.{writable_verdict}
 use Rattle.writable.specs.Writing.{Writes}
 use Rattle.writable.specs.laws.Verdicts.{accepts}
@@ -26,7 +25,7 @@ use Rattle.writing.specs.OneSpelling.{SpellingOf, FrameOf, OneSpelling}
 use Rattle.writing.specs.laws.Cases.{spelled_agree, spelled_again}
 use Rattle.writing.specs.laws.Spellings.{short_spelling, long_spelling, bytes_read, bytes_pass, line_passes, spelling_again, agree_one, one_agree}
 
-frame_read : (c d : Case) (before after : List ℕ) → FromFields c before (Accepted d) after → (d ≡ c) × FrameOf c (take (length (frame_bytes c)) after)
+frame_read : (c d : Case) (before after : List ℕ) → FromFields c before (Ok d) after → (d ≡ c) × FrameOf c (take (length (frame_bytes c)) after)
 frame_read c d before after w =
     let p = placed_text (field_tests c) c w in
     let f = (heated_by_lem c p.sound).fields in
@@ -38,7 +37,7 @@ Spells tests c before = Writes spelling (writable_verdict spelling tests c (leng
 
 written_spelling : (tests : List (Test Fault)) (c : Case) {d : Case} {before after : List ℕ}
     → (first_of tests ≡ none → Heated c)
-    → Spells tests c before (Accepted d) after
+    → Spells tests c before (Ok d) after
     → (d ≡ c) × SpellingOf d (take (length (spelling d)) after)
 written_spelling tests c {after = after} heated w =
     let p = placed_text tests c w in
@@ -51,14 +50,14 @@ written_again : (tests : List (Test Fault)) (d : Case) (before : List ℕ) {c : 
     → first_of tests ≡ none
     → d ≡ as_spelled c
     → Spells tests d before v after
-    → (v ≡ Accepted (as_spelled c)) × (take (length text) after ≡ text)
+    → (v ≡ Ok (as_spelled c)) × (take (length text) after ≡ text)
 unfolding writable_verdict
 written_again tests d before {c} {text} {after} {v} s l p e w =
     let same : spelling d ≡ text = ap spelling e ∙ spelling_again c ∙ sym s.is_spelling in
     let fits : length (spelling d) ≤ length before = subst (λ (t : List ℕ). length t ≤ length before) (sym same) l in
-    let verdict : v ≡ Accepted d = w.verdict ∙ accepts tests (length (spelling d)) (length before) d p fits in
+    let verdict : v ≡ Ok d = w.verdict ∙ accepts tests (length (spelling d)) (length before) d p fits in
     let start : take (length (spelling d)) after ≡ spelling d = (placed_text tests d (subst (λ (k : Verdict). Spells tests d before k after) verdict w)).start in
-    (verdict ∙ ap {B = Verdict} Accepted e, subst (λ (t : List ℕ). take (length t) after ≡ t) same start)
+    (verdict ∙ ap {B = Verdict} Ok e, subst (λ (t : List ℕ). take (length t) after ≡ t) same start)
 
 one_case : {c d : Case} {a b : List ℕ} → SpellingOf c a → SpellingOf d b → (a ≡ b) ↔ Agree c d
 one_case {c} {d} s t = (
@@ -66,7 +65,7 @@ one_case {c} {d} s t = (
   λ g. s.is_spelling ∙ agree_one g ∙ sym t.is_spelling,
 )
 
-spelled_frame : (frame before after : List ℕ) (c : Case) → SpellsFrame frame before (Accepted c) after → (c ≡ fields_of frame) × SpellingOf c (take (length (spelling c)) after)
+spelled_frame : (frame before after : List ℕ) (c : Case) → SpellsFrame frame before (Ok c) after → (c ≡ fields_of frame) × SpellingOf c (take (length (spelling c)) after)
 spelled_frame frame before after c w = written_spelling (frame_tests frame) (fields_of frame) (λ p. (frame_clear frame p).1) w
 
 pub one_spelling : OneSpelling

@@ -6,5 +6,5 @@ use Rattle.enclosure.proofs.exponential.positive.Goals as goal
 
 pub returns : goal.returns
 returns c =
-    product_in 11303 24 1739 c.mul.ensures c.whole_part-a.ensures c.part-b.ensures
+    product_in 11303 24 1739 c.mul.ensures c.whole_part.ensures c.part.ensures
     (all_digits_lem _ _ _ (omega arith)) (omega arith) refl (omega arith)

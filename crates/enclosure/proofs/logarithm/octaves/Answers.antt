@@ -11,4 +11,4 @@ use Rattle.enclosure.proofs.logarithm.octaves.Goals as goal
 pub returns : goal.returns
 unfolding series_lower sum ln_term power even third ninth one_over whole ◌⊕◌ ◌⊗◌
 returns c =
-    octaves_of _ _ _ _ _ (search rules) (omega arith) (record { low = record { bound = lit≤ tt }; high = record { bound = lit≤ tt } }) c.odd_series-s.ensures
+    octaves_of _ _ _ _ _ (search rules) (omega arith) (record { low = record { bound = lit≤ tt }; high = record { bound = lit≤ tt } }) c.odd_series.ensures

@@ -1,8 +1,6 @@
 -- `enclosure::logarithm::odd_series` meets its contract. Assumes nothing.
-use mathlib.Core.Path.{◌≡◌}
-use Prim.Native.Nat.{suc, ◌+◌, ◌-◌, ◌*◌}
-use native.Mathlib.Nat.{div-le_self}
-use native.Mathlib.Omega.{arith}
+use Rattle.std.proofs.Common.{◌≡◌, suc, ◌+◌, ◌-◌, ◌*◌, arith}
+use Rattle.std.proofs.Math.Nat.{div-le_self}
 use borrow.Author.Rules.{rules}
 use Rattle.enclosure.proofs.OddSeries.{S, now, squares, product_small, last_small, first, again, finish}
 use Rattle.enclosure.proofs.logarithm.odd_series.Goals as goal
@@ -19,14 +17,6 @@ pub overflow_mul-h : goal.overflow_mul-h
 overflow_mul-h c =
     let i = now c.loop-j.invariant in
     omega (arith, product_small _ _ i.v_fits i.h_fits)
-
-pub overflow_mul-h-in-loop-j : goal.overflow_mul-h-in-loop-j
-overflow_mul-h-in-loop-j c =
-    omega (arith, (now c.loop-j.invariant).within)
-
-pub overflow_add-h : goal.overflow_add-h
-overflow_add-h c =
-    omega (arith, (now c.loop-j.invariant).within)
 
 pub overflow_add-h-in-loop-j : goal.overflow_add-h-in-loop-j
 overflow_add-h-in-loop-j c =

@@ -4,6 +4,3 @@ use Rattle.enclosure.proofs.logarithm.odd_series.Given as goal
 
 abbrev pub invariant-loop-j : goal.invariant-loop-j
 invariant-loop-j l = At l.a l.b l.w l.v l.h l.j
-
-abbrev pub decreases-loop-j : goal.decreases-loop-j
-decreases-loop-j l = l.j

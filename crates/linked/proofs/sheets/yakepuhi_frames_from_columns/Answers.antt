@@ -5,5 +5,5 @@ use Rattle.linked.proofs.sheets.yakepuhi_frames_from_columns.Goals as goal
 
 pub returns : goal.returns
 returns c =
-    let e = c.restore-v.ensures in
+    let e = c.restore.ensures in
     record { returned = c.code_of.ensures ∙ ap code e.verdict; area = e.area }

@@ -1,20 +1,19 @@
 -- `places::Places::content_at` meets its contract: what the list has at a place is what stands there. Assumes nothing.
-use mathlib.Core.Path.{sym}
+use mathlib.Core.Path.{sym, ap, ◌∙◌}
 use native.Mathlib.Omega.{arith}
-use borrow.Author.Rules.{rules}
-use Rattle.places.specs.Holes.{at}
-use Rattle.places.specs.laws.Contents.{unmapped, at_outside, at_inside}
+use Rattle.std.specs.Option.{option_flatten}
+use Rattle.std.specs.Prelude.{None, slice_index_or}
+use Rattle.places.specs.Places.{stands_for}
+use Rattle.places.specs.laws.Contents.{at_none, at_inside}
+use Rattle.places.proofs.Lookups.{read_through}
 use Rattle.places.proofs.Places.content_at.Goals as goal
 
-pub returns-then-k-eq0 : goal.returns-then-k-eq0
-unfolding at
-returns-then-k-eq0 c =
-    rw c.if-k-eq0.true
-
-pub returns-then-k-gt64 : goal.returns-then-k-gt64
-returns-then-k-gt64 c =
-    sym (at_outside _ (search (rules, unmapped)) _ c.if-k-gt64.true)
+pub returns-in_err-checked_sub : goal.returns-in_err-checked_sub
+returns-in_err-checked_sub c =
+    c.from_residual.ensures ∙ sym (at_none (stands_for c.args.self.now) c.args.k (omega (arith, c.in_err-checked_sub.ensures)))
 
 pub returns : goal.returns
 returns c =
-    sym (at_inside _ (search (rules, unmapped)) _ _ (omega arith) (omega arith))
+    let inside = c.in_ok-checked_sub.ensures in
+    c.flatten.ensures ∙ ap option_flatten c.copied.ensures ∙ read_through c.get.result ∙ c.get.ensures.lookup.4 (omega arith) None
+    ∙ ap (λ (i : _). slice_index_or c.args.self.now.all i None) inside.1 ∙ sym (at_inside c.args.self.now _ inside.0)

@@ -6,8 +6,8 @@ use Rattle.sheet.proofs.Sheet.add_frame.Goals as goal
 
 pub enter-requires : goal.enter-requires
 enter-requires c d e =
-    frame_heated _ d (sym c.check_frame-s.ensures ∙ e)
+    frame_heated _ d (sym c.check_frame.ensures ∙ e)
 
 pub returns : goal.returns
 returns c =
-    frame_adds c.args.frame.now c.check_frame-s.ensures c.enter.ensures
+    frame_adds c.args.frame.now c.check_frame.ensures c.enter.ensures

@@ -6,8 +6,8 @@ use Rattle.sheet.proofs.Sheet.add_line.Goals as goal
 
 pub enter-requires : goal.enter-requires
 enter-requires c d e =
-    line_heated _ d (sym c.check_line-s.ensures ∙ e)
+    line_heated _ d (sym c.check_line.ensures ∙ e)
 
 pub returns : goal.returns
 returns c =
-    line_adds c.args.line.now c.check_line-s.ensures c.enter.ensures
+    line_adds c.args.line.now c.check_line.ensures c.enter.ensures

@@ -1,15 +1,19 @@
 -- `sheet::Sheet::case_at` meets its contract. Assumes nothing.
+use Rattle.std.proofs.Common.{rules, ◌≡◌, Err}
 use mathlib.Core.Path.{sym, ap, ◌∙◌}
-use Rattle.places.specs.Places.{content_of}
 use Rattle.sheet.specs.Operations.{list_of, found_in, found}
+use Rattle.sheet.proofs.Contents.{taken, hole}
 use Rattle.sheet.proofs.Sheet.case_at.Goals as goal
 
-pub returns-in-Hole : goal.returns-in-Hole
+pub returns-in_err-held : goal.returns-in_err-held
 unfolding found list_of
-returns-in-Hole c =
-    ap found_in (sym (ap content_of c.in-Hole.is) ∙ c.content_at-content.ensures)
+returns-in_err-held c =
+    let refused : c.from_residual.result ≡ Err (record {}) = search rules in
+    let nothing = hole _ _ _ (sym c.ok_or.ensures.value ∙ c.in_err-held.was) in
+    refused ∙ ap found_in (sym nothing ∙ c.content_at.ensures)
 
-pub returns-in-Taken : goal.returns-in-Taken
+pub returns : goal.returns
 unfolding found list_of
-returns-in-Taken c =
-    ap found_in (sym (ap content_of c.in-Taken.is) ∙ c.content_at-content.ensures)
+returns c =
+    let there = taken _ _ _ (sym c.ok_or.ensures.value ∙ c.in_ok-held.was) in
+    ap found_in (sym there ∙ c.content_at.ensures)

@@ -4,4 +4,4 @@ use Rattle.sheet.proofs.Sheet.close.Goals as goal
 
 pub returns : goal.returns
 returns c =
-    closes _ _ _ c.close-places.ensures c.last-count.ensures c.afresh-self.ensures
+    closes _ _ _ c.close.ensures c.last.ensures c.afresh-self.ensures

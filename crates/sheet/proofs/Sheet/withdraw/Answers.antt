@@ -1,20 +1,22 @@
 -- `sheet::Sheet::withdraw` meets its contract: a case that is there leaves a gap. Assumes nothing.
-use mathlib.Core.Path.{sym, ap, ◌∙◌}
-use Rattle.places.specs.Places.{content_of}
-use Rattle.places.specs.laws.Contents.{unmapped, taken_inside}
+use Rattle.std.proofs.Common.{rules, ◌≡◌, Err}
+use mathlib.Core.Path.{sym, ◌∙◌}
+use Rattle.places.specs.laws.Contents.{taken_inside}
 use Rattle.sheet.specs.laws.Places.{withdraw_none, withdraw_case}
-use borrow.Author.Rules.{rules}
+use Rattle.sheet.proofs.Contents.{taken, hole}
 use Rattle.sheet.proofs.Sheet.withdraw.Goals as goal
 
-pub take-sheet-requires : goal.take-sheet-requires
-take-sheet-requires c =
-    taken_inside c.args.self.places (search (rules, unmapped)) _ _
-    (sym c.content_at-content.ensures ∙ ap content_of c.in-Taken.is)
+pub returns-in_err-held : goal.returns-in_err-held
+returns-in_err-held c =
+    let refused : c.from_residual.result ≡ Err (record {}) = search rules in
+    let nothing = hole _ _ _ (sym c.ok_or.ensures.value ∙ c.in_err-held.was) in
+    rw refused (withdraw_none _ _ (sym nothing ∙ c.content_at.ensures))
 
-pub returns-in-Hole : goal.returns-in-Hole
-returns-in-Hole c =
-    withdraw_none _ _ (sym (ap content_of c.in-Hole.is) ∙ c.content_at-content.ensures)
+pub take-requires : goal.take-requires
+take-requires c =
+    taken_inside c.args.self.now.places _ _ (sym c.content_at.ensures ∙ taken _ _ _ (sym c.ok_or.ensures.value ∙ c.in_ok-held.was))
 
-pub returns-in-Taken : goal.returns-in-Taken
-returns-in-Taken c =
-    withdraw_case _ _ _ _ (sym (ap content_of c.in-Taken.is) ∙ c.content_at-content.ensures) c.take-sheet.ensures
+pub returns : goal.returns
+returns c =
+    let there = taken _ _ _ (sym c.ok_or.ensures.value ∙ c.in_ok-held.was) in
+    withdraw_case _ _ _ _ (sym there ∙ c.content_at.ensures) c.take.ensures

@@ -1,8 +1,0 @@
--- `known_old_lines::take_in` lends no more than the area has. Assumes nothing.
-use mathlib.Core.Path.{sym}
-use lib.Seq.{length-take-le}
-use Rattle.known_old_lines.proofs.take_in.Goals as goal
-
-pub slice_bounds-from_line-end-2 : goal.slice_bounds-from_line-end-2
-slice_bounds-from_line-end-2 c =
-    sym (length-take-le _ _ c.requires)

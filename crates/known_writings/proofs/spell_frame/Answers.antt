@@ -1,8 +1,0 @@
--- `known_writings::spell_frame` lends no more than the area has. Assumes nothing.
-use mathlib.Core.Path.{sym}
-use lib.Seq.{length-take-le}
-use Rattle.known_writings.proofs.spell_frame.Goals as goal
-
-pub slice_bounds-spell_frame-end-2 : goal.slice_bounds-spell_frame-end-2
-slice_bounds-spell_frame-end-2 c =
-    sym (length-take-le _ _ c.requires)

@@ -1,0 +1,2 @@
+-- What a line of a request spells.
+pub mod Frames

@@ -1,0 +1,107 @@
+// What the test programs of requests share: the input read whole, the frame that a line spells, and what is shown.
+#![tactic(auto)]
+
+ghost use Rattle.std.specs.Prelude.{◌≡◌, ◌≤◌, Some, IfSome, codes, length};
+ghost use Rattle.std.specs.Option.{option_copied, option_map_or};
+ghost use Rattle.std.specs.Io.KnownBytes.{Consumes};
+ghost use Rattle.requests.specs.Frames.{spelled_in, frame_size, frame_of, bytes_of};
+
+use std::io::Read;
+use std::{fmt, io};
+
+// What is read of the input: all of it, as far as there is room and no read fails.
+pub fn read_all<'a, R: Read>(input: &mut R, room: &'a mut [u8]) -> &'a [u8]
+    ensures { Consumes (R.remaining input.old) (R.remaining input.new) result.now }
+{
+    let mut done = 0;
+    // no `for`: each read tells how far it came
+    while done < room.len() {
+        match input.read(&mut room[done..]) {
+            Ok(0) | Err(_) => break,
+            Ok(n) => done += n,
+        }
+    }
+    &room[..done]
+}
+
+fn spelled<'a>(text: &[u8], room: &'a mut [u8]) -> Option<&'a [u8]>
+    requires { length room.old ≤ 24 }
+    ensures bytes { option_copied result ≡ spelled_in (length room.old) text.now }
+    ensures size { IfSome result (λ b. length b.now ≡ length room.old) }
+{
+    if hexadecimals::spell(text, room) {
+        Some(room)
+    } else {
+        None
+    }
+}
+
+// The frame that a line spells, if it spells one: 24 bytes of 48 characters, 22 of any other number.
+pub fn frame_of<'a>(line: &[u8], room: &'a mut [u8; 24]) -> Option<&'a [u8]>
+    ensures frame { option_copied result ≡ frame_of line.now }
+    ensures size { IfSome result (λ f. length f.now ≡ frame_size line.now) }
+{
+    let size = if line.len() == 48 { 24 } else { 22 };
+    spelled(line, &mut room[..size])
+}
+
+// The bytes that a text of two digits each spells, if they are at most 24.
+pub fn bytes_of<'a>(text: &[u8], room: &'a mut [u8; 24]) -> Option<&'a [u8]>
+    ensures { option_copied result ≡ bytes_of text.now }
+{
+    let size = text.len() / 2;
+    if size <= 24 {
+        spelled(text, &mut room[..size])
+    } else {
+        None
+    }
+}
+
+fn print_few(rt: &impl Print, bytes: &[u8]) -> io::Result<()>
+    requires { length bytes.now ≤ 32 }
+{
+    let mut digits = [0; 64];
+    hexadecimals::write(bytes, &mut digits);
+    rt.write_all(&digits[..2 * bytes.len()])
+}
+
+// Two digits for each byte.
+pub fn print_digits(rt: &impl Print, bytes: &[u8]) -> io::Result<()> {
+    for few in bytes.chunks(32) {
+        print_few(rt, few)?;
+    }
+    Ok(())
+}
+
+// A space and two digits for each byte, if there are any. As of all that prints, no clause says what a terminal took.
+pub fn print_bytes(rt: &impl Print, bytes: &[u8]) -> io::Result<()> {
+    if bytes.is_empty() {
+        return Ok(());
+    }
+    print!(rt; " ")?;
+    print_digits(rt, bytes)
+}
+
+// A space and a text, if it has any bytes.
+pub fn print_text(rt: &impl Print, text: &[u8]) -> io::Result<()> {
+    if text.is_empty() {
+        return Ok(());
+    }
+    print!(rt; " ")?;
+    rt.write_all(text)
+}
+
+// A value, or - where there is none.
+#[derive(Drop)]
+pub struct OrDash<T>(pub Option<T>);
+
+impl<T: fmt::Display> fmt::Display for OrDash<T> {
+    ghost output = { λ x. option_map_or T.output x.0 (Some (codes "-")) };
+
+    fn fmt<W: fmt::Write>(&self, f: &mut fmt::Formatter<W>) -> fmt::Result {
+        match &self.0 {
+            Some(x) => write!(f, "{x}"),
+            None => write!(f, "-"),
+        }
+    }
+}
