@@ -1,5 +1,5 @@
 -- The bytes that a line spells, two characters at a time, with the worth of each character at hand. Assumes nothing.
-use Rattle.std.specs.Prelude.{ℕ, zero, suc, ◌+◌, ◌*◌, ◌≤◌, ◌<◌, ◌≡◌, refl, Bool, false, eqb, get_or, drop, set}
+use Rattle.std.specs.Prelude.{ℕ, suc, ◌+◌, ◌*◌, ◌≤◌, ◌<◌, ◌≡◌, refl, false, get_or, drop, set}
 use Rattle.std.proofs.Math.Path.{sym, ap}
 use Rattle.std.proofs.Common.{◌∙◌, add-one, drop_of_length-le, drop-cons, take-suc-set}
 use Rattle.std.proofs.Math.Bool.{true}
@@ -7,10 +7,9 @@ use mathlib.Core.List.{List, [], ◌∷◌, ◌++◌, append_assoc, append-nil}
 use native.Mathlib.Omega.{arith}
 use Rattle.std.proofs.Math.ListN.{length, take, length-set}
 use Rattle.std.proofs.Math.Seq.{take_all}
-use borrow.Author.Tests.{lt-ltb, eq-eqb, ne_eqb, eqb-true}
+use borrow.Author.Tests.{lt-ltb, eq-eqb, ne_eqb}
 use Rattle.hexadecimals.specs.Digits.{digit_of, all_digits, bytes_of}
 use Rattle.hexadecimals.specs.Spelling.{spells, Spelled}
-use Rattle.exact.proofs.laws.Tests.{both_true}
 
 -- n bytes, of which i are made: what is left of the line decides, and gives the bytes that are left
 pub record Begun (n : ℕ) (line bytes : List ℕ) (i : ℕ) : Type 0 where

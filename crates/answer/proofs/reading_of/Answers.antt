@@ -7,10 +7,6 @@ use Rattle.signed.proofs.Back.{back}
 use Rattle.answer.specs.Answer.{reading}
 use Rattle.answer.proofs.reading_of.Goals as goal
 
-pub damage_beside-upper-requires : goal.damage_beside-upper-requires
-damage_beside-upper-requires c =
-    c.damage_at-lower.ensures
-
 pub returns : goal.returns
 unfolding reading
 returns c =

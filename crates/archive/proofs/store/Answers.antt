@@ -1,12 +1,7 @@
 -- `archive::store` meets its contract: the columns of what was gathered. Assumes nothing.
 use borrow.Author.Rules.{rules}
-use Rattle.archive.proofs.Gathering.{gathered_frames, gathered_archived}
+use Rattle.archive.proofs.Gathering.{gathered_archived}
 use Rattle.archive.proofs.store.Goals as goal
-
-pub store-requires : goal.store-requires
-store-requires c =
-    let g = c.gather-n.ensures in
-    gathered_frames _ (search rules) g.0 g.1
 
 pub returns : goal.returns
 returns c =

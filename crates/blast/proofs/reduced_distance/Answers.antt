@@ -1,11 +1,7 @@
 -- `blast::reduced_distance` meets its contract. Assumes nothing.
 use native.Mathlib.Omega.{arith}
-use Rattle.blast.proofs.Reduced.{ready, worded, share_divisible, share_rootable, distance_divisible, distance_result}
+use Rattle.blast.proofs.Reduced.{ready, share_divisible, share_rootable, distance_divisible, distance_result}
 use Rattle.blast.proofs.reduced_distance.Goals as goal
-
-pub energy-joules-requires : goal.energy-joules-requires
-energy-joules-requires c =
-    worded c.args.at.now.placed.cloud
 
 pub quo_whole-share-requires : goal.quo_whole-share-requires
 quo_whole-share-requires c =
@@ -16,10 +12,6 @@ pub cube_root-root-requires : goal.cube_root-root-requires
 cube_root-root-requires c =
     let q = c.quo_whole-share.ensures in
     share_rootable (ready c.args.at.now c.requires) c.energy-joules.ensures q.whole q.quotient
-
-pub fraction-metres-requires : goal.fraction-metres-requires
-fraction-metres-requires c =
-    let h = c.args.at.now.placed in (omega (arith, h.fields.distance), omega arith)
 
 pub quo-requires : goal.quo-requires
 quo-requires c =

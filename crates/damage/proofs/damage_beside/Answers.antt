@@ -2,7 +2,6 @@
 use Prim.Native.Nat.{ℕ, ◌/◌}
 use mathlib.Core.Path.{◌≡◌, sym, ◌∙◌, ap}
 use Rattle.signed.proofs.Back.{back}
-use Rattle.damage.specs.Damage.{damage}
 use Rattle.damage.specs.laws.Readings.{from_zero, same_hundredths}
 use Rattle.damage.proofs.damage_beside.Goals as goal
 
@@ -16,7 +15,3 @@ returns-then-from_zero c =
     sym (ap (λ (n : ℕ). n / 10) first) ∙ c.if-from_zero.true ∙ ap (λ (n : ℕ). n / 10) second
     in
     c.requires ∙ same_hundredths known probit same
-
-pub returns-else-from_zero : goal.returns-else-from_zero
-returns-else-from_zero c =
-    c.damage_at.ensures ∙ ap damage (back c.args.probit c.ranges.probit.sfits)

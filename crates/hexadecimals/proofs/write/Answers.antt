@@ -1,5 +1,5 @@
 -- `hexadecimals::write` meets its contract: the digits of the first i bytes are written. Assumes nothing.
-use Rattle.hexadecimals.specs.laws.Writing.{begin, turn, ended}
+use Rattle.hexadecimals.specs.laws.Writing.{begin, turn}
 use Rattle.hexadecimals.proofs.write.Goals as goal
 
 pub loop-i-init : goal.loop-i-init
@@ -9,7 +9,3 @@ loop-i-init c =
 pub loop-i-preserved : goal.loop-i-preserved
 loop-i-preserved c =
     turn c.loop-i.invariant c.loop-i-test.true c.upper_of.ensures c.upper_of-in-loop-i.ensures
-
-pub returns : goal.returns
-returns c =
-    ended c.loop-i.invariant c.loop-i-test.false

@@ -1,17 +1,6 @@
 -- `linked::ends_of` meets its contract: in the case's own air. Assumes nothing.
-use Rattle.guidance.proofs.laws.Domain.{own_air}
 use Rattle.blast.proofs.Ending.{wave_ends}
 use Rattle.linked.proofs.ends_of.Goals as goal
-
-pub pressure-requires : goal.pressure-requires
-pressure-requires c =
-    let a = c.requires in
-    rw c.air_of-air.ensures (a, own_air a.fields)
-
-pub impulse-requires : goal.impulse-requires
-impulse-requires c =
-    let a = c.requires in
-    rw c.air_of-air.ensures (a, own_air a.fields)
 
 pub returns-in-Overpressure : goal.returns-in-Overpressure
 returns-in-Overpressure c =

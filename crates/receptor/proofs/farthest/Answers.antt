@@ -3,7 +3,7 @@ use mathlib.Core.Path.{sym, ◌∙◌}
 use native.Mathlib.Omega.{arith}
 use Rattle.guidance.proofs.laws.Domain.{heated_placed}
 use Rattle.bisection.proofs.Middle.{inside}
-use Rattle.bisection.proofs.Bisection.{raised, lowered, closed}
+use Rattle.bisection.proofs.Bisection.{lowered, closed}
 use Rattle.receptor.specs.laws.Moved.{never_beyond, beyond_farther}
 use Rattle.receptor.specs.laws.Reach.{Within, Beyond, last_is}
 use Rattle.receptor.proofs.farthest.Goals as goal
@@ -12,23 +12,6 @@ pub loop-high-init : goal.loop-high-init
 loop-high-init c =
     let h = c.args.here.now in
     (record { order = omega arith; low = never_beyond h.case h.air (heated_placed h.placed) h.placed.pressure; high = λ e f g. absurd (omega arith) }, omega arith, omega arith)
-
-pub overflow_sub-high : goal.overflow_sub-high
-overflow_sub-high c =
-    omega (arith, c.loop-high.invariant.0.order)
-
-pub overflow_add-middle : goal.overflow_add-middle
-overflow_add-middle c =
-    omega (arith, c.loop-high.invariant.0.order, c.loop-high.invariant.2)
-
-pub at_distance-there-requires : goal.at_distance-there-requires
-at_distance-there-requires c =
-    let i = inside c.loop-high.low c.loop-high.high c.loop-high-test.true in
-    record { least = omega (arith, i.above, c.loop-high.invariant.1); most = omega (arith, i.below, c.loop-high.invariant.2) }
-
-pub loop-high-smaller-then-is_beyond : goal.loop-high-smaller-then-is_beyond
-loop-high-smaller-then-is_beyond c =
-    omega (arith, inside _ _ c.loop-high-test.true)
 
 pub loop-high-preserved-then-is_beyond : goal.loop-high-preserved-then-is_beyond
 loop-high-preserved-then-is_beyond c =
@@ -39,21 +22,6 @@ loop-high-preserved-then-is_beyond c =
       lowered (Within h.air h.case) (Beyond h.air h.case 1000000) c.loop-high.invariant.0 t (λ e f g. beyond_farther h.case h.air f found),
       c.loop-high.invariant.1,
       omega (arith, inside _ _ t, c.loop-high.invariant.2),
-    )
-
-pub loop-high-smaller : goal.loop-high-smaller
-loop-high-smaller c =
-    omega (arith, inside _ _ c.loop-high-test.true)
-
-pub loop-high-preserved : goal.loop-high-preserved
-loop-high-preserved c =
-    let h = c.args.here.now in
-    let t = c.loop-high-test.true in
-    let e = c.at_distance-there.ensures in
-    let found = rw (e.1, e.0) at (sym c.is_beyond.ensures ∙ c.if-is_beyond.false) in (
-      raised (Within h.air h.case) (Beyond h.air h.case 1000000) c.loop-high.invariant.0 t found,
-      omega (arith, inside _ _ t, c.loop-high.invariant.1),
-      c.loop-high.invariant.2,
     )
 
 pub returns : goal.returns

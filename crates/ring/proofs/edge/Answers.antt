@@ -7,26 +7,10 @@ use Rattle.ring.specs.laws.Standing.{standing_nearer}
 use Rattle.ring.specs.laws.Sides.{reached_at, below_at}
 use Rattle.ring.proofs.edge.Goals as goal
 
-pub loop-high-init : goal.loop-high-init
-loop-high-init c =
-    (c.requires.between, omega arith, omega arith)
-
-pub overflow_sub-high : goal.overflow_sub-high
-overflow_sub-high c =
-    omega (arith, c.loop-high.invariant.0.order)
-
-pub overflow_add-middle : goal.overflow_add-middle
-overflow_add-middle c =
-    omega (arith, c.loop-high.invariant.0.order, c.loop-high.invariant.2, c.requires.standing.permitted.most)
-
 pub pressure_at-e-requires : goal.pressure_at-e-requires
 pressure_at-e-requires c =
     let i = inside c.loop-high.low c.loop-high.high c.loop-high-test.true in
     standing_nearer c.requires.standing (omega (arith, c.requires.least, c.loop-high.invariant.1, i.above)) (omega (arith, c.loop-high.invariant.2, i.below))
-
-pub loop-high-smaller-then-end_of-threshold : goal.loop-high-smaller-then-end_of-threshold
-loop-high-smaller-then-end_of-threshold c =
-    omega (arith, inside _ _ c.loop-high-test.true)
 
 pub loop-high-preserved-then-end_of-threshold : goal.loop-high-preserved-then-end_of-threshold
 loop-high-preserved-then-end_of-threshold c =
@@ -38,10 +22,6 @@ loop-high-preserved-then-end_of-threshold c =
       c.loop-high.invariant.1,
       omega (arith, inside _ _ t, c.loop-high.invariant.2),
     )
-
-pub loop-high-smaller : goal.loop-high-smaller
-loop-high-smaller c =
-    omega (arith, inside _ _ c.loop-high-test.true)
 
 pub loop-high-preserved : goal.loop-high-preserved
 loop-high-preserved c =

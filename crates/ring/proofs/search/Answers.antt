@@ -48,10 +48,6 @@ ring_within-requires c =
       last = below_at c.pressure_at-last.ensures refl c.if-last-threshold.true;
     }
 
-pub returns-then-last-threshold : goal.returns-then-last-threshold
-returns-then-last-threshold c =
-    c.ring_within.ensures
-
 -- at a farther one
 pub returns-else-last-threshold : goal.returns-else-last-threshold
 returns-else-last-threshold c =

@@ -1,14 +1,8 @@
 -- `rules::from_frame` meets its contract: what `answer_to` makes of the due verdict. Assumes nothing.
-use mathlib.Core.Path.{subst, sym, ◌∙◌}
-use Rattle.frame.specs.Verdict.{Verdict}
+use mathlib.Core.Path.{sym, ◌∙◌}
 use Rattle.frame.specs.laws.Verdicts.{frame_accepted}
-use Rattle.rules.specs.Rules.{Answers}
 use Rattle.rules.proofs.from_frame.Goals as goal
 
 pub answer_to-requires : goal.answer_to-requires
 answer_to-requires c =
     λ d e. (frame_accepted _ d _ (sym c.decide_frame.ensures ∙ e)).taken.accepted
-
-pub returns : goal.returns
-returns c =
-    subst (λ (v : Verdict). Answers v c.answer_to.result) c.decide_frame.ensures c.answer_to.ensures

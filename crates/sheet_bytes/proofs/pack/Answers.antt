@@ -13,10 +13,6 @@ loop-i-preserved c =
     let i = c.loop-i.i in
     pack_again c.loop-i.invariant c.loop-i-test.true (32 * i + 32 - 32 * i) _ (omega arith) c.put_place.ensures
 
-pub shape_of-s : goal.shape_of-s
-shape_of-s c =
-    c.loop-i.invariant.same
-
 pub returns : goal.returns
 returns c =
     pack_last c.loop-i.invariant c.loop-i-test.false

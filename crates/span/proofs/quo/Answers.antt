@@ -1,11 +1,7 @@
 -- `span::quo` meets its contract. Assumes nothing.
 use Rattle.std.proofs.Common.{refl}
-use Rattle.span.proofs.Operations.{divided, quotient_roundable, quotient_rounded}
+use Rattle.span.proofs.Operations.{divided, quotient_rounded}
 use Rattle.span.proofs.quo.Goals as goal
-
-pub norm-requires : goal.norm-requires
-norm-requires c =
-    let d = c.requires in quotient_roundable _ _ _ _ d (divided _ _ _ _ d refl c.div_ceil-hi.ensures)
 
 pub returns : goal.returns
 returns c =

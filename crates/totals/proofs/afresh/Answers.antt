@@ -2,13 +2,9 @@
 use mathlib.Core.Path.{◌∙◌}
 use native.Mathlib.Omega.{arith}
 use Prim.Native.Nat.{◌<◌}
-use Rattle.totals.proofs.Scans.{scan_first, scan_cases, scan_again, scan_last}
+use Rattle.totals.proofs.Scans.{scan_cases, scan_again, scan_last}
 use Rattle.totals.proofs.afresh.Goals as goal
 use Rattle.totals.proofs.afresh.Goals.{in-Some, in_default}
-
-pub loop-i-init : goal.loop-i-init
-loop-i-init c =
-    scan_first _ _ c.none-totals.ensures
 
 pub with_end-totals-requires : goal.with_end-totals-requires
 with_end-totals-requires c =

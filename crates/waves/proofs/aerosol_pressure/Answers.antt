@@ -14,11 +14,6 @@ use Rattle.waves.proofs.aerosol_pressure.Goals as goal
 
 module _ {r square cube first second third : Span} (x : Distance 19 100 r) (p : Product r r square) (q : Product square r cube)
     (t₁ : Quotient aerosol_first r first) (t₂ : Quotient aerosol_second square second) (t₃ : Quotient aerosol_third cube third) where
-  two-add : Summands first second
-  two-add =
-      let k = window x (omega arith) (omega arith) in
-      omega (arith, t₁.normal, t₂.normal, p.least, p.most, t₁.least, t₁.most, t₂.least, t₂.most)
-
   module _ {two : Span} (u : Sum first second two) where
     three-add : Summands two third
     three-add =
@@ -85,9 +80,6 @@ quo-second-requires c = square_divides (in_window c.requires) c.mul-square.ensur
 
 pub quo-third-requires : goal.quo-third-requires
 quo-third-requires c = cube_divides (in_window c.requires) c.mul-square.ensures c.mul-cube.ensures (omega arith) (omega arith) (omega arith)
-
-pub add-two-requires : goal.add-two-requires
-add-two-requires c = two-add c.requires c.mul-square.ensures c.mul-cube.ensures c.quo-first.ensures c.quo-second.ensures c.quo-third.ensures
 
 pub add-requires : goal.add-requires
 add-requires c = three-add c.requires c.mul-square.ensures c.mul-cube.ensures c.quo-first.ensures c.quo-second.ensures c.quo-third.ensures c.add-two.ensures

@@ -69,10 +69,6 @@ pub mul-product-requires : goal.mul-product-requires
 mul-product-requires c =
     let x = c.requires in omega (arith, mach_exponent x, x.mach, x.expansion, x.exponent, x.mach_least)
 
-pub mul-part-requires : goal.mul-part-requires
-mul-part-requires c =
-    let x = c.requires in omega (arith, x.expansion, x.exponent)
-
 pub mul-lost-requires : goal.mul-lost-requires
 mul-lost-requires c =
     let x = c.requires in
@@ -89,10 +85,6 @@ mul-share-requires c =
     let a = c.mul-product.ensures in
     let b = c.sub-left.ensures in
     omega (arith, mach_exponent x, x.exponent, x.mach_least, a.normal, a.least, a.most, b.normal, b.least, b.most)
-
-pub falling_impulse-fall-requires : goal.falling_impulse-fall-requires
-falling_impulse-fall-requires c =
-    c.requires.distance
 
 pub mul-requires : goal.mul-requires
 mul-requires c =

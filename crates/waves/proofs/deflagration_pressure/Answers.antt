@@ -41,10 +41,6 @@ mul-share-requires c =
     let p = c.mul-square.ensures in
     omega (arith, mach_exponent x, x.mach, x.expansion, x.exponent, x.mach_least, p.normal, p.least, p.most)
 
-pub falling_pressure-fall-requires : goal.falling_pressure-fall-requires
-falling_pressure-fall-requires c =
-    c.requires.distance
-
 pub mul-requires : goal.mul-requires
 mul-requires c =
     let x = c.requires in

@@ -6,7 +6,7 @@ use native.Mathlib.Nat.{mul-pos, mul-le-mul_right}
 use native.Mathlib.Omega.{arith}
 use lib.Pow.{pow_pos}
 use Rattle.span.specs.declared.Span.{Span}
-use Rattle.span.specs.Spans.{unit, Width, Product, Quotient, Summands, Sum, Subtractable, Difference}
+use Rattle.span.specs.Spans.{unit, Width, Product, Quotient, Sum, Subtractable, Difference}
 use Rattle.span.specs.Enclosing.{constant_encloses, product_encloses, quotient_encloses, sum_encloses, difference_encloses, wider, divisor}
 use Rattle.guidance.specs.Waves.{hundredths, ten_thousandths, falling_impulse}
 use Rattle.waves.specs.EndBounds.{lower_itself, upper_itself, lower_coarser, constant_lower, constant_upper, product_upper, quotient_lower, quotient_upper, sum_lower, sum_upper, difference_lower, exponent_most_of, share_of}
@@ -22,11 +22,6 @@ seven-tenths X Y U o near =
 
 module _ {r square cube first second third : Span} (x : Distance 33 100 r) (p : Product r r square) (q : Product square r cube)
     (t₁ : Quotient push_first r first) (t₂ : Quotient push_second square second) (t₃ : Quotient push_third cube third) where
-  adds : Summands first second
-  adds =
-      let k = window x (omega arith) (omega arith) in
-      omega (arith, t₁.normal, t₂.normal, p.least, p.most, t₁.least, t₁.most, t₂.least, t₂.most)
-
   module _ {two : Span} (u : Sum first second two) where
     two-width : (D : ℕ) → Width r D → Width two (2 * D + 11)
     two-width D w =
@@ -112,9 +107,6 @@ quo-second-requires c = square_divides (in_window c.requires) c.mul-square.ensur
 
 pub quo-third-requires : goal.quo-third-requires
 quo-third-requires c = cube_divides (in_window c.requires) c.mul-square.ensures c.mul-cube.ensures (omega arith) (omega arith) (omega arith)
-
-pub add-two-requires : goal.add-two-requires
-add-two-requires c = adds c.requires c.mul-square.ensures c.mul-cube.ensures c.quo-first.ensures c.quo-second.ensures c.quo-third.ensures
 
 pub sub-requires : goal.sub-requires
 sub-requires c = subtractable c.requires c.mul-square.ensures c.mul-cube.ensures c.quo-first.ensures c.quo-second.ensures c.quo-third.ensures c.add-two.ensures

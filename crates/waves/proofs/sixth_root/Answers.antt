@@ -78,10 +78,6 @@ module _ {mass : ℕ} (x : Mass mass) where
             most = enclosed_lower quarter (whole 11) (encloses enough (omega arith)) between;
           }
 
-pub fraction-m-requires : goal.fraction-m-requires
-fraction-m-requires c =
-    (omega (arith, c.requires.least), omega arith)
-
 pub sixth_power-requires : goal.sixth_power-requires
 sixth_power-requires c =
     powerable c.requires c.fraction-m.ensures _ (omega arith)

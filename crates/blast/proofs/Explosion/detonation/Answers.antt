@@ -1,12 +1,8 @@
 -- `blast::Explosion::detonation` meets its contract. Assumes nothing.
-use mathlib.Core.Path.{refl, sym, ◌∙◌}
+use mathlib.Core.Path.{sym, ◌∙◌}
 use Rattle.blast.proofs.Reduced.{seen}
 use Rattle.blast.proofs.Detonations.{log_distance, heterogeneous_at, gas_at}
 use Rattle.blast.proofs.Explosion.detonation.Goals as goal
-
-pub returns-then-near : goal.returns-then-near
-returns-then-near c =
-    record { near = sym c.is_near_field-near.ensures ∙ c.if-near.true; state = refl }
 
 pub log_distance-l-requires : goal.log_distance-l-requires
 log_distance-l-requires c =

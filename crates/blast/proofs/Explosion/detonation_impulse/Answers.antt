@@ -2,14 +2,6 @@
 use Rattle.blast.proofs.Detonations.{told_near, told_heterogeneous, told_gas, near_impulse_lem, heterogeneous_impulse, gas_impulse_lem}
 use Rattle.blast.proofs.Explosion.detonation_impulse.Goals as goal
 
-pub aerosol_impulse-requires : goal.aerosol_impulse-requires
-aerosol_impulse-requires c =
-    (told_heterogeneous c.requires c.in-Heterogeneous.is).distance
-
-pub gas_impulse-requires : goal.gas_impulse-requires
-gas_impulse-requires c =
-    (told_gas c.requires c.in-Gas.is).distance.logged
-
 pub returns-in-Near : goal.returns-in-Near
 returns-in-Near c =
     near_impulse_lem (told_near c.requires c.in-Near.is) c.near_impulse.ensures

@@ -5,14 +5,6 @@ use Rattle.span.specs.Constants.{coefficient}
 use Rattle.blast.proofs.Detonations.{told_near, told_heterogeneous, told_gas, near_pressure, heterogeneous_pressure, gas_pressure_lem}
 use Rattle.blast.proofs.Explosion.detonation_pressure.Goals as goal
 
-pub aerosol_pressure-requires : goal.aerosol_pressure-requires
-aerosol_pressure-requires c =
-    (told_heterogeneous c.requires c.in-Heterogeneous.is).distance
-
-pub gas_pressure-requires : goal.gas_pressure-requires
-gas_pressure-requires c =
-    (told_gas c.requires c.in-Gas.is).distance
-
 pub returns-in-Near : goal.returns-in-Near
 unfolding whole
 returns-in-Near c =

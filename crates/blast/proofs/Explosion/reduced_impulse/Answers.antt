@@ -2,12 +2,8 @@
 use native.Mathlib.Omega.{arith}
 use Rattle.guidance.specs.Waves.{reduced_impulse}
 use Rattle.blast.specs.Windows.{deflagration_impulse_window}
-use Rattle.blast.proofs.Deflagrations.{told_burning, deflagrating, deflagration_impulse_lem, detonation_alone, smaller_of_both}
+use Rattle.blast.proofs.Deflagrations.{told_burning, deflagration_impulse_lem, detonation_alone, smaller_of_both}
 use Rattle.blast.proofs.Explosion.reduced_impulse.Goals as goal
-
-pub impulse-i-requires : goal.impulse-i-requires
-impulse-i-requires c =
-    deflagrating (told_burning c.requires.deflagration c.in-Some.is).flame
 
 pub returns-in-None : goal.returns-in-None
 unfolding reduced_impulse

@@ -2,12 +2,8 @@
 use native.Mathlib.Omega.{arith}
 use Rattle.guidance.specs.Waves.{reduced_pressure}
 use Rattle.blast.specs.Windows.{deflagration_pressure_window}
-use Rattle.blast.proofs.Deflagrations.{told_burning, deflagrating, deflagration_pressure_lem, detonation_alone, smaller_of_both}
+use Rattle.blast.proofs.Deflagrations.{told_burning, deflagration_pressure_lem, detonation_alone, smaller_of_both}
 use Rattle.blast.proofs.Explosion.reduced_pressure.Goals as goal
-
-pub pressure-p-requires : goal.pressure-p-requires
-pressure-p-requires c =
-    deflagrating (told_burning c.requires.deflagration c.in-Some.is).flame
 
 pub returns-in-None : goal.returns-in-None
 unfolding reduced_pressure

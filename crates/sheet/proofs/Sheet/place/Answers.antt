@@ -1,6 +1,5 @@
 -- `sheet::Sheet::place` meets its contract: tests 7 and 17 in their order, then the case with its end. Assumes nothing.
 use mathlib.Core.Path.{sym, ◌∙◌}
-use Rattle.guidance.proofs.laws.Domain.{accepted, own_air}
 use Rattle.sheet.specs.Operations.{list_of}
 use Rattle.sheet.specs.laws.Entering.{by_7, by_17, place_left, by_none}
 use Rattle.sheet.proofs.Sheet.place.Goals as goal
@@ -13,11 +12,6 @@ pub returns-then-last-eq64 : goal.returns-then-last-eq64
 unfolding list_of
 returns-then-last-eq64 c =
     by_17 _ _ _ (sym c.is_beyond.ensures ∙ c.if-is_beyond.false) c.last-last.ensures c.if-last-eq64.true
-
-pub pressure-ends-requires : goal.pressure-ends-requires
-pressure-ends-requires c =
-    let h = c.requires in
-    rw c.air_of.ensures (accepted h (sym c.is_beyond.ensures ∙ c.if-is_beyond.false), own_air h.fields)
 
 pub put-requires : goal.put-requires
 unfolding list_of
