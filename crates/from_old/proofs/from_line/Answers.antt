@@ -1,3 +1,4 @@
+-- The verdict is that of the first test that refuses the line, the room for the frame last; the area is kept then, and begins with the frame else. Assumes nothing.
 use Rattle.std.proofs.Common.{◌≡◌, ap, sym, refl, ◌∙◌, List, ℕ, length, Ok, rules}
 use Rattle.fields.specs.Bytes.{frame_bytes}
 use Rattle.limits.specs.Checked.{Checked}
