@@ -1,8 +1,8 @@
 -- The four sizes one by one: the number in as many bytes, and a number's last bytes. Assumes nothing.
-use Rattle.std.proofs.Common.{◌≡◌, ℕ, zero, suc, ◌+◌, ◌-◌, ◌*◌, ◌^◌, ◌<◌, ◌≤◌, ◌⊎◌, inl, inr, List, ◌∷◌, IsTrue, get_or, length, take, drop, refl, sym, ap, ◌∙◌, subst, arith, length-take-le, length-drop, replicate}
+use Rattle.std.proofs.Common.{◌≡◌, ℕ, zero, suc, ◌+◌, ◌-◌, ◌*◌, ◌/◌, ◌%◌, ◌^◌, ◌<◌, ◌≤◌, ◌⊎◌, inl, inr, List, [], ◌∷◌, IsTrue, get_or, length, take, drop, refl, sym, ap, ◌∙◌, subst, arith, length-take-le, length-drop, replicate}
 use Rattle.std.proofs.lemmas.Nat.{shr-shr}
 use Rattle.std.proofs.lemmas.Bool.Decides.{nat_tests}
-use Rattle.std.specs.Int.{w64, from_be_bytes, to_be_bytes}
+use Rattle.std.specs.Int.{w64, from_be_bytes}
 use Rattle.std.proofs.lemmas.List.{get_or-take, get_or-drop}
 use borrow.Rule.Slice.PartMut.{put_mid}
 use Rattle.byte_numbers.specs.Numbers.{is_size, number_at, one_at, two_at, four_at, last_bytes, one, two, four, eight}
@@ -67,12 +67,18 @@ read {q} s at n h k e =
     let all : q ≡ listed n (λ (i : ℕ). one_at s (at + i)) = e ∙ ap (λ (m : ℕ). take m (drop at s)) (omega arith) ∙ part_listed n s at k in
     ap (λ (l : List ℕ). from_be_bytes w64 (put_mid (8 - n) (8 - (8 - n)) (replicate 8 0) l)) all ∙ of_listed s at n h
 
+-- a number's eight bytes, each of the number shifted
+pub eight_listed : (v : ℕ)
+    → eight v
+    ≡ v / 2 ^ 56 % 256 ∷ v / 2 ^ 48 % 256 ∷ v / 2 ^ 40 % 256 ∷ v / 2 ^ 32 % 256 ∷ v / 2 ^ 24 % 256 ∷ v / 2 ^ 16 % 256 ∷ v / 2 ^ 8 % 256 ∷ v % 256 ∷ []
+unfolding eight four
+eight_listed v = rw (shr-shr v 32 24, shr-shr v 32 16, shr-shr v 32 8) refl
+
 -- a number's last bytes are the last of its eight, and as many as the size says
-pub last_of : (v n : ℕ) → IsTrue (is_size n) → take (8 - (8 - n)) (drop (8 - n) (to_be_bytes w64 v)) ≡ last_bytes n v
+pub last_of : (v n : ℕ) → IsTrue (is_size n) → take (8 - (8 - n)) (drop (8 - n) (eight v)) ≡ last_bytes n v
 unfolding one two four eight
 last_of v n h =
-    each_size (λ (k : ℕ). take (8 - (8 - k)) (drop (8 - k) (to_be_bytes w64 v)) ≡ last_bytes k v) refl refl refl
-    (rw (shr-shr v 32 24, shr-shr v 32 16, shr-shr v 32 8)) n h
+    each_size (λ (k : ℕ). take (8 - (8 - k)) (drop (8 - k) (eight v)) ≡ last_bytes k v) refl refl refl refl n h
 
 pub last_length : (v n : ℕ) → IsTrue (is_size n) → length (last_bytes n v) ≡ n
 unfolding one two four eight

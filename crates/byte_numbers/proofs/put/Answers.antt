@@ -9,6 +9,6 @@ returns g c =
     let n : ℕ = g.row.N in
     let at : ℕ = c.args.at in
     let last : List ℕ → List ℕ = λ l. take (8 - (8 - n)) (drop (8 - n) l) in
-    whole_part at (at + n - at) (c.copy_from_slice.ensures.after ∙ ap last c.to_be_bytes.ensures ∙ last_of c.args.v n c.requires.size)
+    whole_part at (at + n - at) (c.copy_from_slice.ensures.after ∙ ap last c.bytes_of.ensures ∙ last_of c.args.v n c.requires.size)
     (last_length c.args.v n c.requires.size ∙ omega arith)
     (omega (arith, c.requires.in_bounds))
