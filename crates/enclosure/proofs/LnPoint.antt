@@ -1,7 +1,8 @@
 -- ln at a point: from k ln 2 and the series to the N-th ends of the theory, on both sides of 1. Assumes nothing.
 use mathlib.Core.Path.{◌≡◌, refl, ap, sym, subst, ◌∙◌}
 use Prim.Native.Nat.{ℕ, ◌+◌, ◌-◌, ◌*◌, ◌/◌, ◌^◌, ◌≤◌, ◌<◌}
-use native.Mathlib.Nat.{mul-le-mul, mul-le-mul_right, mul-le-mul_left, le_of_mul-le-mul_right}
+use native.Mathlib.Nat.{add_comm, mul-le-mul, mul-le-mul_right, mul-le-mul_left, le_of_mul-le-mul_right}
+use native.Mathlib.Decide.{dec_le}
 use native.Mathlib.Omega.{arith}
 use Rattle.exact.specs.Fraction.{Ratio, ◌≼◌, ◌≈◌, Above0, whole, ◌⊕◌, ◌⊗◌, ◌⊖◌, recip, ◌⊑◌, Positive, of_ratio, neg, magnitude, one_f}
 use Rattle.exact.proofs.laws.Ratio.{≼_refl, ≼_trans, to≼, from≼, ⊕-mono, above_mono}
@@ -20,7 +21,7 @@ use Rattle.span.specs.Spans.{unit, unit_positive, units}
 use Rattle.span.specs.Unary.{LnWithin}
 use Rattle.span.specs.Powers.{powers}
 use Rattle.fixed.specs.Logs.{fixed}
-use Rattle.enclosure.specs.LogSteps.{ratio, Series, Octaves, biased, biased_pair, Point, LnPoint}
+use Rattle.enclosure.specs.LogSteps.{ratio, Series, OctavesOf, Octaves, Sided, biased, biased_pair, Point, LnPoint}
 use Rattle.enclosure.proofs.OddSeries.{lower_to, upper_to, more}
 use Rattle.enclosure.proofs.Octave.{Ln2, ln_low, ln_high, one_high, none_low, ln2_low, ln2_high, times_low, times_high}
 
@@ -209,3 +210,34 @@ ln_below m e r p l d =
       least = λ j q. omega (arith, d.small);
       most = λ j q. omega (arith, d.small);
     }
+
+-- Both sides in one
+
+pub side_most : {e f : ℕ} → Sided e (2 ^ 30) (2 ^ 31) f → f ≤ 2 ^ 31
+side_most {e} {f} u = go (dec_le 994 e)
+  where
+    go : Dec (994 ≤ e) → f ≤ 2 ^ 31
+    go (yes l) = omega (arith, u.above l)
+    go (no l) = omega (arith, u.below (omega arith))
+
+module _ {m e k a f : ℕ} (p : Point m e) (s : Sided e (e - 994) (993 - e) k) (t : Sided e (m - 2 ^ 30) (2 ^ 31 - m) a) (u : Sided e (2 ^ 30) (2 ^ 31) f) where
+  pub sides_fit : OctavesOf k a (f + m)
+  sides_fit = go (dec_le 994 e)
+    where
+      go : Dec (994 ≤ e) → OctavesOf k a (f + m)
+      go (yes l) = rw (s.above l, t.above l, u.above l) (record { series = record { some = omega arith; fits = omega (arith, p.most); third = omega (arith, p.least, p.most) }; most = omega (arith, p.exponent) })
+      go (no l) =
+          let g : e < 994 = omega arith in
+          rw (s.below g, t.below g, u.below g) (record { series = record { some = omega arith; fits = omega (arith, p.most); third = omega (arith, p.least, p.most) }; most = omega arith })
+
+  pub sides_small : {r : ℕ} → Octaves k a (f + m) r → r + 8 ≤ 2 ^ 40
+  sides_small d = omega (arith, d.small, sides_fit.most)
+
+  pub both_sides : {r h : ℕ} → Octaves k a (f + m) r → Sided e (2 ^ 40 + r) (2 ^ 40 - (r + 8)) h → LnPoint m e h
+  both_sides {r} {h} d v = go (dec_le 994 e)
+    where
+      go : Dec (994 ≤ e) → LnPoint m e h
+      go (yes l) = rw (v.above l) (ln_above m e r p l (subst (λ (i : ℕ). Octaves (e - 994) (m - 2 ^ 30) i r) (add_comm (2 ^ 30) m) (rw (s.above l, t.above l, u.above l) at d)))
+      go (no l) =
+          let g : e < 994 = omega arith in
+          rw (v.below g) (ln_below m e r p g (rw (s.below g, t.below g, u.below g) at d))

@@ -55,6 +55,11 @@ pub record Point (m e : ℕ) : Type 0 where
   pub most : m ≤ 2 ^ 31
   pub exponent : e ≤ 2017
 
+-- x from 2^994 up, y below
+pub record Sided (e x y r : ℕ) : Type 0 where
+  pub above : 994 ≤ e → r ≡ x
+  pub below : e < 994 → r ≡ y
+
 pub record LnPoint (m e h : ℕ) : Type 0 where
   pub ends : (z : Positive (units (m * 2 ^ e))) (n : ℕ) → 20 ≤ n → LnWithin (units (m * 2 ^ e)) z n (biased_pair h (h + 8))
   pub least : (k : ℕ) → 993 ≤ e + k → 2 ^ 40 ≤ h + (reach k + 8)

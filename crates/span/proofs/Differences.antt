@@ -45,11 +45,11 @@ module _ (a b : Span) (g : Subtractable a b) where
   lower_taken t down = le_of_mul-le-mul_right {k = 2 ^ (a.e - b.e)} (omega (arith, share, down.below)) (pow_pos (a.e - b.e))
 
 module _ (a b : Span) (t u : ℕ) (g : Subtractable a b) (down : ShiftedDown b.lo (a.e - b.e) t) (up : ShiftedUp b.hi (a.e - b.e) u) where
-  taken_ordered : t ≤ u
+  pub taken_ordered : t ≤ u
   taken_ordered = le_of_mul-le-mul_right {k = 2 ^ (a.e - b.e)} (omega arith) (pow_pos (a.e - b.e))
 
-  pub difference_roundable : (l h : ℕ) → l + u ≡ a.lo → h + t ≡ a.hi → Roundable l h a.e
-  difference_roundable l h el eh = let o = taken_ordered in let k = lower_taken a b g t down in omega arith
+  pub difference_roundable : (l h : ℕ) → l + t ≤ a.lo → h + t ≡ a.hi → Roundable l h a.e
+  difference_roundable l h el eh = let k = lower_taken a b g t down in omega arith
 
   pub difference_rounded : (r : Span) (l h : ℕ) → l + u ≡ a.lo → h + t ≡ a.hi → Rounded l h a.e r → Difference a b r
   unfolding hull

@@ -6,7 +6,7 @@ use Rattle.enclosure.proofs.ln.Goals as goal
 
 pub overflow_sub-h : goal.overflow_sub-h
 overflow_sub-h c =
-    (word_fits _ _ _ c.requires c.point-h.ensures c.slack-w.ensures).0
+    omega (arith, word_fits _ _ _ c.requires c.point-h.ensures c.slack-w.ensures)
 
 pub unbiased-lo-requires : goal.unbiased-lo-requires
 unbiased-lo-requires c =
