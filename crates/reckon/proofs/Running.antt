@@ -7,12 +7,11 @@ use native.Mathlib.Numerals.{add-one}
 use native.Mathlib.Omega.{arith}
 use lib.ListN.{length, take}
 use lib.Seq.{length-take-le}
-use Rattle.std.specs.Prelude.{Ok}
 use Rattle.text.specs.declared.Stream.{Stream}
 use Rattle.text.specs.Records.{longest}
 use Rattle.text.specs.Streams.{Stands}
 use Rattle.text.specs.Promises.{Ready}
-use Rattle.reckon.specs.Passing.{Turns}
+use Rattle.reckon.specs.Passing.{Past}
 use Rattle.reckon.specs.Reading.{budget, read_most, After}
 use Rattle.reckon.specs.Reading.After.{none, more}
 
@@ -33,21 +32,20 @@ run_ready so_far h room = record { numbers = omega (arith, after_lines so_far.af
 pub run_again
     : {stream next : Stream} {reads n : ℕ} {read : List ℕ} →
     Running stream reads →
-    Turns stream read (Ok n) next →
+    Past stream read n next →
     (n ≡ 0 → ⊥) →
     length read ≤ read_most →
     Running next (reads + 1)
-run_again {reads = reads} {read = read} so_far turns some most =
-    let used = turns.used in
-    let size = length-take-le used read turns.past.within in
+run_again {reads = reads} {n = n} {read = read} so_far past some most =
+    let size = length-take-le n read past.within in
     record {
-      bytes = so_far.bytes ++ take used read;
+      bytes = so_far.bytes ++ take n read;
       after =
           rw (add-one reads)
           (more
-          {part = take used read}
+          {part = take n read}
           so_far.after
-          (rw (size, ← turns.told) (pos_of_ne-zero some))
-          (omega (arith, size, turns.past.within))
-          turns.past.reached);
+          (rw size (pos_of_ne-zero some))
+          (omega (arith, size, past.within, most))
+          past.reached);
     }

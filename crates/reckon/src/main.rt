@@ -1,7 +1,7 @@
 // Reads lines from standard input to its end, and writes each line's record to standard output.
 #![tactic(auto)]
 
-ghost use Rattle.std.specs.Prelude.{◌≤◌, length};
+ghost use Rattle.std.specs.Prelude.{◌≡◌, ◌≤◌, IfErr, length};
 ghost use Rattle.text.specs.Streams.{Tells, TellsLast};
 ghost use Rattle.text.specs.Promises.{Ready};
 ghost use Rattle.reckon.specs.Passing.{Turns, Relays, Passes, Buffers};
@@ -16,9 +16,11 @@ const STDOUT: i32 = 1;
 // A proved loop has to end, and nothing says that an input does. So the reads are counted, up to a number that no run reaches.
 const BUDGET: u64 = 1 << 47;
 
-// A write that took nothing or failed.
+// A write that took nothing or failed, and how many of the bytes at hand the stream is past all the same.
 #[derive(Drop)]
-struct WriteFailed;
+struct WriteFailed {
+    used: usize,
+}
 
 // Why a run ended: a read brought nothing, a write failed, or the budget of reads is used up.
 #[derive(Drop)]
@@ -39,15 +41,22 @@ struct Ran {
 // Writes the text of the lines that end in these bytes after s: the two say what the text has to be.
 fn tell(s: Stream, bytes: &[u8], text: &[u8]) -> Result<(), WriteFailed>
     requires { Tells s bytes.now text.now }
+    ensures { IfErr result (λ e. e.used ≡ length bytes.now) }
 {
-    io::write_all(STDOUT, text).then_some(()).ok_or(WriteFailed)
+    let used = bytes.len();
+    io::write_all(STDOUT, text)
+        .then_some(())
+        .ok_or(WriteFailed { used })
 }
 
 // Writes the text of the last line of s, which no LF ends. Apart from `tell`, since it asks another fact of its text.
 fn tell_last(s: Stream, text: &[u8]) -> Result<(), WriteFailed>
     requires { TellsLast s text.now }
+    ensures { IfErr result (λ e. e.used ≡ 0) }
 {
-    io::write_all(STDOUT, text).then_some(()).ok_or(WriteFailed)
+    io::write_all(STDOUT, text)
+        .then_some(())
+        .ok_or(WriteFailed { used: 0 })
 }
 
 // Feeds as much of a part as the area has room for the records of, and writes them. How many bytes were used.
@@ -66,11 +75,16 @@ fn pass(stream: &mut Stream, part: &[u8], out: &mut [u8]) -> Result<(), WriteFai
     requires { Ready stream.old (length part.now) out.old }
     ensures { Passes stream.old part.now result stream.new }
 {
-    let mut rest = part;
+    let mut used = 0;
     // no `for`: each call tells how much it used
-    while !rest.is_empty() {
-        let used = relay(stream, rest, out)?;
-        rest = &rest[used..];
+    while used < part.len() {
+        match relay(stream, &part[used..], out) {
+            Ok(n) => used += n,
+            Err(failed) => {
+                used += failed.used;
+                return Err(WriteFailed { used });
+            }
+        }
     }
     Ok(())
 }
@@ -78,6 +92,7 @@ fn pass(stream: &mut Stream, part: &[u8], out: &mut [u8]) -> Result<(), WriteFai
 // Writes the record of a last line that no LF ends.
 fn last(s: Stream, out: &mut [u8]) -> Result<(), WriteFailed>
     requires { Ready s 1 out.old }
+    ensures { IfErr result (λ e. e.used ≡ 0) }
 {
     let n = s.finish(out);
     tell_last(s, &out[..n])
@@ -120,7 +135,7 @@ fn run(source: &mut Stdin, input: &mut [u8], out: &mut [u8]) -> Ran
         let end = match turn(source, &mut stream, input, out) {
             Ok(0) => End::Input,
             Ok(_) => continue,
-            Err(WriteFailed) => End::Output,
+            Err(WriteFailed { .. }) => End::Output,
         };
         return Ran {
             end,

@@ -17,8 +17,8 @@ pub struct Stream {
     pub lines: u64,
     pub held: usize,
     pub line: [u8; 49],
-    ghost size: { length line ≡ 49 },
-    ghost within: { held ≤ 49 },
+    pub ghost size: { length line ≡ 49 },
+    pub ghost within: { held ≤ 49 },
 }
 
 // How many bytes of a part of the input are used, and how many of the area are written.

@@ -1,16 +1,15 @@
 -- `reckon::pass` meets its contract: each turn uses more of the part. Assumes nothing.
-use Rattle.text.specs.laws.Tails.{part_to_end}
-use Rattle.reckon.proofs.Passing.{pass_first, pass_again, pass_failed}
+use Rattle.reckon.proofs.Passing.{past_none, past_again}
 use Rattle.reckon.proofs.pass.Goals as goal
 
-pub loop-rest-init : goal.loop-rest-init
-loop-rest-init c =
-    pass_first c.args.stream.now c.args.part.now
+pub loop-used-init : goal.loop-used-init
+loop-used-init c =
+    past_none c.args.stream.now c.args.part.now
 
-pub returns-in_err-used : goal.returns-in_err-used
-returns-in_err-used c =
-    pass_failed c.loop-rest.invariant c.relay.ensures c.from_residual.ensures.0
+pub loop-used-preserved : goal.loop-used-preserved
+loop-used-preserved c =
+    past_again c.loop-used.invariant c.in-Ok.ensures.turns
 
-pub loop-rest-preserved : goal.loop-rest-preserved
-loop-rest-preserved c =
-    rw part_to_end (pass_again c.loop-rest.invariant c.relay.ensures c.in_ok-used.was)
+pub returns-in-Err : goal.returns-in-Err
+returns-in-Err c =
+    past_again c.loop-used.invariant c.in-Err.ensures.turns
