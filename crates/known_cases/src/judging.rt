@@ -3,7 +3,7 @@ use crate::answers;
 use crate::planting::Plant;
 use scan::{Lines, Words};
 use std::io;
-use vectors::judging::Finding;
+use vectors::judging::{Finding, Parts};
 use vectors::table::Entry;
 
 // Counts of a file's vectors.
@@ -26,7 +26,7 @@ impl Tally {
 
 // A vector's line answered, its frame too, a fault planted, and both judged.
 pub(crate) fn judged(vector: &[u8], plant: Plant, table: &[Entry; 108]) -> Finding {
-    let (head, line) = vectors::judging::vector_of(vector);
+    let Parts { head, line, .. } = vectors::judging::vector_of(vector);
     let mut by_line = answers::to_line(line, head.room);
     let mut by_frame = answers::to_frame_of(line, head.room);
     if let Some(fault) = plant.in_line {
@@ -45,6 +45,12 @@ pub(crate) fn judged_planted(text: &[u8], table: &[Entry; 108]) -> Finding {
     judged(words.rest, plant, table)
 }
 
+fn show_unexpected(rt: &impl Print, line: &[u8]) -> io::Result<()> {
+    print!(rt; "not as expected: ")?;
+    rt.write_all(line)?;
+    println!(rt)
+}
+
 // How many vectors a file has, how many are to be accepted and refused, were answered alike from the frame and have a fault; the sum of its bytes.
 // A line is shown whole where a fault is found and none is expected, or none and one is.
 pub(crate) fn show_all<F: Fn(&[u8]) -> Finding>(
@@ -60,9 +66,7 @@ pub(crate) fn show_all<F: Fn(&[u8]) -> Finding>(
     for line in (Lines { rest: text }) {
         let found = judge(line);
         if found.faulty != expected {
-            print!(rt; "not as expected: ")?;
-            rt.write_all(line)?;
-            println!(rt)?;
+            let _unwritten = show_unexpected(rt, line);
         }
         tally.count(found);
     }

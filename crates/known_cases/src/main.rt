@@ -58,11 +58,12 @@ fn table_of(text: &[u8]) -> [Entry; 108] {
     table
 }
 
-fn show_table(rt: &HostRuntime) -> io::Result<[Entry; 108]> {
+// The table is read whether or not its line is written.
+fn show_table(rt: &HostRuntime) -> [Entry; 108] {
     let mut room = [0; 4096];
     let text = load(rt, "table", &mut room);
-    println!(rt; "table; sum of its bytes {}", scan::sums::sum_of(text))?;
-    Ok(table_of(text))
+    let _unwritten = println!(rt; "table; sum of its bytes {}", scan::sums::sum_of(text));
+    table_of(text)
 }
 
 // Table 3 around its ends.
@@ -88,10 +89,11 @@ fn show_lengths(rt: &HostRuntime) -> io::Result<()> {
     println!(rt; "frames of 0 to 79 bytes, refused for their length: {refused}")
 }
 
-fn main(rt: HostRuntime) -> io::Result<()> {
-    show_readings(&rt)?;
-    show_lengths(&rt)?;
-    let table = show_table(&rt)?;
+// A failed write is let go, and the next part shown: the stored output shows what is missing.
+fn main(rt: HostRuntime) {
+    let _unwritten = show_readings(&rt);
+    let _unwritten = show_lengths(&rt);
+    let table = show_table(&rt);
     for name in [
         "known",
         "examples",
@@ -104,9 +106,9 @@ fn main(rt: HostRuntime) -> io::Result<()> {
         "random",
         "airs",
     ] {
-        show_vectors(&rt, name, &table)?;
+        let _unwritten = show_vectors(&rt, name, &table);
     }
-    show_planted(&rt, &table)?;
+    let _unwritten = show_planted(&rt, &table);
     for name in [
         "near",
         "far",
@@ -116,7 +118,6 @@ fn main(rt: HostRuntime) -> io::Result<()> {
         "printed_004_100",
         "printed_004_135",
     ] {
-        show_figures(&rt, name)?;
+        let _unwritten = show_figures(&rt, name);
     }
-    Ok(())
 }

@@ -1,5 +1,5 @@
 -- A figure of an answer between two numbers of the data, as document 01 calls it near or a paper prints it.
-use Rattle.std.specs.Prelude.{ℕ, ◌+◌, ◌*◌, Bool, ◌&&◌, if◌then◌else◌, List, Option, Some, None, ◌==◌, nat_le, nat_lt}
+use Rattle.std.specs.Prelude.{ℕ, ◌+◌, ◌*◌, Bool, false, ◌&&◌, if◌then◌else◌, List, ◌==◌, nat_le, nat_lt}
 use Rattle.byte_numbers.specs.Numbers.{two_at, four_at}
 use Rattle.scan.specs.Words.{lead_of, value_of, after_word}
 use Rattle.vectors.specs.declared.bounds.Held.{Held}
@@ -26,9 +26,9 @@ held_at area given i least most =
       ends = record { lower = end_at area i 1 29; upper = end_at area i 5 31 };
     }
 
--- a figure of the data is its number below 12, the two numbers, the line, and a name
-abbrev pub held_of : (text : List ℕ) (given : ℕ) (area : List ℕ) → Option Held
+-- a figure of the data is its number below 12, the two numbers, the line, and a name; one of another number is not near, and its ends are 0
+abbrev pub held_of : (text : List ℕ) (given : ℕ) (area : List ℕ) → Held
 held_of text given area =
     if nat_lt (value_of text) 12
-    then Some (held_at area given (value_of text) (bound_of (after_word text)) (bound_of (after_word (after_word text))))
-    else None
+    then held_at area given (value_of text) (bound_of (after_word text)) (bound_of (after_word (after_word text)))
+    else record { near = false; ends = record { lower = 0; upper = 0 } }

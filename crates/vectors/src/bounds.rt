@@ -34,8 +34,8 @@ fn ends_of(area: &[u8; 80], i: usize) -> Interval
     }
 }
 
-// What a figure of the data is held to: its number, the two numbers, the line, and a name. There is no thirteenth figure.
-pub fn hold(text: &[u8], answer: &Answer) -> Option<Held>
+// What a figure of the data is held to: its number, the two numbers, the line, and a name. There is no thirteenth figure: it is not near, and its ends are 0.
+pub fn hold(text: &[u8], answer: &Answer) -> Held
     ensures { result ≡ held_of text.now answer.now.verdict answer.now.area }
 {
     let mut words = Words { rest: text };
@@ -43,14 +43,14 @@ pub fn hold(text: &[u8], answer: &Answer) -> Option<Held>
     let least = words.next_word();
     let most = words.next_word();
     if 12 <= figure {
-        return None;
+        return Held::default();
     }
     let ends = ends_of(&answer.area, figure as usize);
     let inside = raised(200_000, least) <= ends.lower && ends.upper <= raised(200_000, most);
-    Some(Held {
+    Held {
         near: answer.verdict == 0 && inside,
         ends,
-    })
+    }
 }
 
 // The line of a figure, and its name.

@@ -23,6 +23,14 @@ pub struct Vector {
     pub expected: Expected,
 }
 
+// A vector's parts: its head, and its text from the values on and from the line on.
+#[derive(Clone, Copy)]
+pub struct Parts<'a> {
+    pub head: Vector,
+    pub values: &'a [u8],
+    pub line: &'a [u8],
+}
+
 // An answer: its verdict's number, as the data have it, 0 where the case is accepted; and the area that was lent for it.
 #[derive(Clone, Copy, PartialEq, Eq)]
 pub struct Answer {
@@ -68,18 +76,24 @@ fn head_of(words: &mut Words) -> Vector
     Vector { room, expected }
 }
 
-// A vector's head, and its line behind the values, if it has any.
-pub fn vector_of(text: &[u8]) -> (Vector, &[u8])
-    ensures head { result.0 ≡ vector_of text.now }
-    ensures small { result.0.room ≤ 80 }
-    ensures line { result.1.now ≡ line_of text.now }
+// A vector's head, and where its values and its line start. A case that is to be refused has no values: its line starts there.
+pub fn vector_of(text: &[u8]) -> Parts<'_>
+    ensures head { result.head ≡ vector_of text.now }
+    ensures small { result.head.room ≤ 80 }
+    ensures values { result.values.now ≡ values_of text.now }
+    ensures line { result.line.now ≡ line_of text.now }
 {
     let mut words = Words { rest: text };
-    let vector = head_of(&mut words);
-    if let Expected::Accepted { .. } = vector.expected {
+    let head = head_of(&mut words);
+    let values = words.rest;
+    if let Expected::Accepted { .. } = head.expected {
         skip_values(&mut words);
     }
-    (vector, words.rest)
+    Parts {
+        head,
+        values,
+        line: words.rest,
+    }
 }
 
 #[tactic(auto, unfolding(crate::specs::Judging::untouched))]
