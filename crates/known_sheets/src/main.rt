@@ -5,7 +5,7 @@
 use guidance::Case;
 use refusals::Reason;
 use scan::{Lines, Words};
-use sheet::Sheet;
+use sheet::{Handed, Sheet};
 use sheet_bytes::SIZE;
 use std::io;
 use totals::Totals;
@@ -75,40 +75,54 @@ impl Sheets {
         }
     }
 
+    // The sheet that an operation hands back is kept; its answer.
+    fn keep<A>(&mut self, done: Handed<A>) -> A {
+        let Handed { sheet, answer } = done;
+        self.sheet = sheet;
+        answer
+    }
+
     fn add_line(&mut self, rt: &impl Print, line: &[u8]) -> io::Result<()> {
-        show_place(rt, self.sheet.add_line(line))?;
-        self.add_lent(rt, line)
+        let placed = self.keep(self.sheet.add_line(line));
+        show_place(rt, placed).and(self.add_lent(rt, line))
     }
 
     // From the frame that the line spells.
     fn add_frame(&mut self, rt: &impl Print, line: &[u8]) -> io::Result<()> {
         let mut room = [0; 24];
-        match requests::frame_of(line, &mut room) {
-            Some(frame) => show_place(rt, self.sheet.add_frame(frame))?,
-            None => print!(rt; "-")?,
-        }
-        self.add_lent(rt, line)
+        let shown = match requests::frame_of(line, &mut room) {
+            Some(frame) => {
+                let placed = self.keep(self.sheet.add_frame(frame));
+                show_place(rt, placed)
+            }
+            None => print!(rt; "-"),
+        };
+        shown.and(self.add_lent(rt, line))
     }
 
     // The lent sheet takes frames alone.
     fn add_lent(&mut self, rt: &impl Print, line: &[u8]) -> io::Result<()> {
-        print!(rt; " ")?;
+        let spaced = print!(rt; " ");
         let mut room = [0; 24];
-        match requests::frame_of(line, &mut room) {
+        spaced.and(match requests::frame_of(line, &mut room) {
             Some(frame) => show_place(rt, lent_sheet::add(&mut self.lent, frame)),
             None => print!(rt; "-"),
-        }
+        })
     }
 
     fn withdraw(&mut self, rt: &impl Print, place: u64) -> io::Result<()> {
-        show_case(rt, 'W', self.sheet.withdraw(place as usize))?;
+        let withdrawn = self.keep(self.sheet.withdraw(place as usize));
+        let lent = lent_sheet::withdraw(&mut self.lent, place);
+        show_case(rt, 'W', withdrawn)?;
         print!(rt; " ")?;
-        show_done(rt, 'W', lent_sheet::withdraw(&mut self.lent, place))
+        show_done(rt, 'W', lent)
     }
 
     fn close(&mut self, rt: &impl Print) -> io::Result<()> {
-        print!(rt; "C{} ", self.sheet.close())?;
-        show_done(rt, 'C', lent_sheet::close(&mut self.lent))
+        let cases = self.keep(self.sheet.close());
+        let lent = lent_sheet::close(&mut self.lent);
+        print!(rt; "C{cases} ")?;
+        show_done(rt, 'C', lent)
     }
 
     fn hold(&self, rt: &impl Print, place: u64) -> io::Result<()> {
@@ -156,15 +170,14 @@ impl Sheets {
     }
 }
 
-fn main(rt: HostRuntime) -> io::Result<()> {
+fn main(rt: HostRuntime) {
     let mut room = [0; 65536];
     let text = requests::read_all(&mut rt.stdin(), &mut room);
     let mut sheets = Sheets::empty();
-    // here and in no function that takes a closure: `?` ends it plainly
     for (number, line) in (1u64..).zip(Lines { rest: text }) {
-        print!(rt; "{number} ")?;
-        sheets.act(&rt, line)?;
-        println!(rt)?;
+        // a failed write is let go, and the operation done all the same: the stored output shows what is missing
+        let _unwritten = print!(rt; "{number} ")
+            .and(sheets.act(&rt, line))
+            .and(println!(rt));
     }
-    Ok(())
 }

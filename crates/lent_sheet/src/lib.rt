@@ -99,11 +99,11 @@ pub fn add(s: &mut [u8], frame: &[u8]) -> Result<usize, Refusal>
 {
     if s.len() < SIZE {
         // tests 1 to 7, which an empty sheet has alone, come before 8
-        Sheet::empty().add_frame(frame)?;
+        Sheet::empty().enter_frame(frame)?;
         return Err(Refusal::Space);
     }
     let mut sheet = read(s);
-    let place = sheet.add_frame(frame)?;
+    let place = sheet.enter_frame(frame)?;
     sheet_bytes::pack(s, &sheet.places);
     Ok(place)
 }
@@ -114,7 +114,7 @@ pub fn withdraw(s: &mut [u8], place: u64) -> Result<(), Refusal>
 {
     enough(s)?;
     let mut sheet = read(s);
-    sheet.withdraw(place as usize)?;
+    sheet.leave(place as usize)?;
     sheet_bytes::pack(s, &sheet.places);
     Ok(())
 }
@@ -125,7 +125,7 @@ pub fn close(s: &mut [u8]) -> Result<(), Refusal>
 {
     enough(s)?;
     let mut sheet = read(s);
-    sheet.close();
+    sheet.close_up();
     sheet_bytes::pack(s, &sheet.places);
     Ok(())
 }

@@ -1,5 +1,5 @@
 // The study sheet: the cases of a yard's receptors, up to 64, each at its place.
-// A refused operation leaves the sheet equal. Of every value of the type each operation ends, and does as on the list that it stands for.
+// A refused operation hands the sheet back equal. Of every value of the type each operation ends, and does as on the list that it stands for.
 // The totals are kept up: right ones stay right, and those of the empty sheet are.
 #![tactic(auto)]
 
@@ -86,6 +86,13 @@ impl Reason for Vacancy {
     }
 }
 
+// What a method hands back: the sheet, and its answer.
+#[derive(Clone, Copy)]
+pub struct Handed<A> {
+    pub sheet: Sheet,
+    pub answer: A,
+}
+
 impl Sheet {
     pub fn empty() -> Self
         ensures { (list_of result ≡ []) × (Right result) }
@@ -132,18 +139,34 @@ impl Sheet {
         self.place(tested?)
     }
 
-    // The case of a frame's bytes, right after the last one; its place, or the first test that applies.
-    pub fn add_frame(&mut self, frame: &[u8]) -> Result<usize, Refusal>
+    // The case of a frame's bytes, right after the last one; its place, or the first test that applies. In place, as `leave` and
+    // `close_up` are, for a caller that holds the sheet: by value it is copied.
+    pub fn enter_frame(&mut self, frame: &[u8]) -> Result<usize, Refusal>
         ensures { DoesWith self.old (add_frame frame.now) self.new (placing result) }
     {
         self.enter(frame::check_frame(frame))
     }
 
-    // The same for a case given as a line.
-    pub fn add_line(&mut self, line: &[u8]) -> Result<usize, Refusal>
-        ensures { DoesWith self.old (add_line line.now) self.new (placing result) }
+    // The same, and the sheet is handed back.
+    pub fn add_frame(mut self, frame: &[u8]) -> Handed<Result<usize, Refusal>>
+        ensures { DoesWith self (add_frame frame.now) result.sheet (placing result.answer) }
     {
-        self.enter(frame::check_line(line))
+        let answer = self.enter_frame(frame);
+        Handed {
+            sheet: self,
+            answer,
+        }
+    }
+
+    // The same for a case given as a line.
+    pub fn add_line(mut self, line: &[u8]) -> Handed<Result<usize, Refusal>>
+        ensures { DoesWith self (add_line line.now) result.sheet (placing result.answer) }
+    {
+        let answer = self.enter(frame::check_line(line));
+        Handed {
+            sheet: self,
+            answer,
+        }
     }
 
     // A gap in the place of a case.
@@ -156,7 +179,7 @@ impl Sheet {
     }
 
     // The case at a place goes and leaves a gap; nothing moves.
-    pub fn withdraw(&mut self, place: usize) -> Result<Case, Vacancy>
+    pub fn leave(&mut self, place: usize) -> Result<Case, Vacancy>
         ensures { Does self.old (withdraw place) self.new (finding result) }
     {
         let held = self.places.content_at(place).ok_or(Vacancy)?;
@@ -164,13 +187,35 @@ impl Sheet {
         Ok(held.case)
     }
 
+    // The same, and the sheet is handed back.
+    pub fn withdraw(mut self, place: usize) -> Handed<Result<Case, Vacancy>>
+        ensures { Does self (withdraw place) result.sheet (finding result.answer) }
+    {
+        let answer = self.leave(place);
+        Handed {
+            sheet: self,
+            answer,
+        }
+    }
+
     // The gaps go, the cases in order from place 1 on; how many there are.
-    pub fn close(&mut self) -> usize
+    pub fn close_up(&mut self) -> usize
         ensures { Does self.old close self.new (counting result) }
     {
         self.places.close();
         self.totals = totals::afresh(&self.places);
         self.places.last()
+    }
+
+    // The same, and the sheet is handed back.
+    pub fn close(mut self) -> Handed<usize>
+        ensures { Does self close result.sheet (counting result.answer) }
+    {
+        let answer = self.close_up();
+        Handed {
+            sheet: self,
+            answer,
+        }
     }
 
     // The case at a place.

@@ -12,4 +12,4 @@ returns-in_err-enough c =
 
 pub returns : goal.returns
 returns c =
-    accepted_call _ _ _ _ _ c.in_ok-enough.ensures c.read-sheet.ensures c.close.ensures refl _ c.pack.ensures
+    accepted_call _ _ _ _ _ c.in_ok-enough.ensures c.read-sheet.ensures c.close_up.ensures refl _ c.pack.ensures

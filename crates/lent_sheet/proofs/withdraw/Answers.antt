@@ -13,13 +13,13 @@ returns-in_err-enough c =
     let refused : c.from_residual.result ≡ Err Space = search rules in
     rw refused (short_withdraw _ _ c.in_err-enough.ensures.1)
 
-pub returns-in_err-withdraw : goal.returns-in_err-withdraw
-returns-in_err-withdraw c =
-    let refused : c.from_residual-in_err-withdraw.result ≡ Err Vacant = search rules in
+pub returns-in_err-leave : goal.returns-in_err-leave
+returns-in_err-leave c =
+    let refused : c.from_residual-in_err-leave.result ≡ Err Vacant = search rules in
     rw refused
-    (refused_call _ _ _ _ _ c.in_ok-enough.ensures c.read-sheet.ensures c.withdraw.ensures _ (ap (λ (q : Result Case Vacancy). refusal (finding q)) c.in_err-withdraw.was))
+    (refused_call _ _ _ _ _ c.in_ok-enough.ensures c.read-sheet.ensures c.leave.ensures _ (ap (λ (q : Result Case Vacancy). refusal (finding q)) c.in_err-leave.was))
 
 pub returns : goal.returns
 returns c =
-    accepted_call _ _ _ _ _ c.in_ok-enough.ensures c.read-sheet.ensures c.withdraw.ensures (ap (λ (q : Result Case Vacancy). refusal (finding q)) c.in_ok-withdraw.was) _
+    accepted_call _ _ _ _ _ c.in_ok-enough.ensures c.read-sheet.ensures c.leave.ensures (ap (λ (q : Result Case Vacancy). refusal (finding q)) c.in_ok-leave.was) _
     c.pack.ensures

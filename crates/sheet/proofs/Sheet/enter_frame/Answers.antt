@@ -1,8 +1,8 @@
--- `sheet::Sheet::add_frame` meets its contract. Assumes nothing.
+-- `sheet::Sheet::enter_frame` meets its contract. Assumes nothing.
 use mathlib.Core.Path.{sym, ◌∙◌}
 use Rattle.frame.specs.laws.Checks.{frame_heated}
 use Rattle.sheet.specs.laws.Entering.{frame_adds}
-use Rattle.sheet.proofs.Sheet.add_frame.Goals as goal
+use Rattle.sheet.proofs.Sheet.enter_frame.Goals as goal
 
 pub enter-requires : goal.enter-requires
 enter-requires c d e =

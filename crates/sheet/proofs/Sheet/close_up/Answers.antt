@@ -1,6 +1,6 @@
--- `sheet::Sheet::close` meets its contract. Assumes nothing.
+-- `sheet::Sheet::close_up` meets its contract. Assumes nothing.
 use Rattle.sheet.specs.laws.Places.{closes}
-use Rattle.sheet.proofs.Sheet.close.Goals as goal
+use Rattle.sheet.proofs.Sheet.close_up.Goals as goal
 
 pub returns : goal.returns
 returns c =

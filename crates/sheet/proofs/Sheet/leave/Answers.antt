@@ -1,10 +1,10 @@
--- `sheet::Sheet::withdraw` meets its contract: a case that is there leaves a gap. Assumes nothing.
+-- `sheet::Sheet::leave` meets its contract: a case that is there leaves a gap. Assumes nothing.
 use Rattle.std.proofs.Common.{rules, ◌≡◌, Err}
 use mathlib.Core.Path.{sym, ◌∙◌}
 use Rattle.places.specs.laws.Contents.{taken_inside}
 use Rattle.sheet.specs.laws.Places.{withdraw_none, withdraw_case}
 use Rattle.sheet.proofs.Contents.{taken, hole}
-use Rattle.sheet.proofs.Sheet.withdraw.Goals as goal
+use Rattle.sheet.proofs.Sheet.leave.Goals as goal
 
 pub returns-in_err-held : goal.returns-in_err-held
 returns-in_err-held c =
