@@ -43,12 +43,11 @@ fn show(rt: &impl Print, number: u64, text: &[u8]) -> io::Result<()> {
     println!(rt)
 }
 
-fn main(rt: HostRuntime) -> io::Result<()> {
+fn main(rt: HostRuntime) {
     let mut room = [0; 65536];
     let text = requests::read_all(&mut rt.stdin(), &mut room);
-    // here and in no function that takes a closure: `?` ends it plainly
     for (number, line) in (1..).zip(Lines { rest: text }) {
-        show(&rt, number, line)?;
+        // a failed write is let go, and the next line answered: the stored output shows what is missing
+        let _unwritten = show(&rt, number, line);
     }
-    Ok(())
 }

@@ -1,7 +1,7 @@
 // What the test programs of requests share: the input read whole, the frame that a line spells, and what is shown.
 #![tactic(auto)]
 
-ghost use Rattle.std.specs.Prelude.{◌≡◌, ◌≤◌, Some, IfSome, codes, length};
+ghost use Rattle.std.specs.Prelude.{◌*◌, ◌≡◌, ◌≤◌, Some, IfSome, codes, length};
 ghost use Rattle.std.specs.Option.{option_copied, option_map_or};
 ghost use Rattle.std.specs.Io.KnownBytes.{Consumes};
 ghost use Rattle.requests.specs.Frames.{spelled_in, frame_size, frame_of, bytes_of};
@@ -57,20 +57,29 @@ pub fn bytes_of<'a>(text: &[u8], room: &'a mut [u8; 24]) -> Option<&'a [u8]>
     }
 }
 
-fn print_few(rt: &impl Print, bytes: &[u8]) -> io::Result<()>
-    requires { length bytes.now ≤ 32 }
+fn print_in(rt: &impl Print, room: &mut [u8], bytes: &[u8]) -> io::Result<()>
+    requires { 2 * length bytes.now ≤ length room.old }
 {
-    let mut digits = [0; 64];
-    hexadecimals::write(bytes, &mut digits);
-    rt.write_all(&digits[..2 * bytes.len()])
+    hexadecimals::write(bytes, room);
+    rt.write_all(&room[..2 * bytes.len()])
 }
 
-// Two digits for each byte.
-pub fn print_digits(rt: &impl Print, bytes: &[u8]) -> io::Result<()> {
-    for few in bytes.chunks(32) {
-        print_few(rt, few)?;
+// In one write what fills an area of 1,600 bytes, the largest that a program shows.
+fn print_many(rt: &impl Print, bytes: &[u8]) -> io::Result<()> {
+    let mut room = [0; 3200];
+    for part in bytes.chunks(1600) {
+        print_in(rt, &mut room, part)?;
     }
     Ok(())
+}
+
+// Two digits for each byte. The few of a frame have a small room, which is sooner made.
+pub fn print_digits(rt: &impl Print, bytes: &[u8]) -> io::Result<()> {
+    if bytes.len() <= 64 {
+        print_in(rt, &mut [0; 128], bytes)
+    } else {
+        print_many(rt, bytes)
+    }
 }
 
 // A space and two digits for each byte, if there are any. As of all that prints, no clause says what a terminal took.
