@@ -8,8 +8,9 @@ use Rattle.writable.specs.declared.Refusal.TheVariants as writings
 use Rattle.from_old.specs.declared.Refusal.TheVariants as old_lines
 use Rattle.to_old.specs.declared.Refusal.TheVariants as ways_back
 use Rattle.sheet.specs.declared.Refusal.TheVariants as sheets
+use Rattle.lent_sheet.specs.declared.Refusal.TheVariants as calls
 use Rattle.numbering.specs.Entries.{Refused, number}
-use Rattle.numbering.specs.Entries.Refused.{answer, ring, writing, old_line, way_back, adding, place}
+use Rattle.numbering.specs.Entries.Refused.{answer, ring, writing, old_line, way_back, adding, place, call}
 
 pub retired : (r : Refused) → number r ≡ 4 → ⊥
 retired (answer (answers.Faulty f)) = no_fault 4 refl f
@@ -32,3 +33,8 @@ retired (adding (sheets.Faulty f)) = no_fault 4 refl f
 retired (adding sheets.Beyond) = λ e. omega arith
 retired (adding sheets.Full) = λ e. omega arith
 retired (place v) = λ e. omega arith
+retired (call (calls.Unadded (sheets.Faulty f))) = no_fault 4 refl f
+retired (call (calls.Unadded sheets.Beyond)) = λ e. omega arith
+retired (call (calls.Unadded sheets.Full)) = λ e. omega arith
+retired (call calls.Vacant) = λ e. omega arith
+retired (call calls.Space) = λ e. omega arith

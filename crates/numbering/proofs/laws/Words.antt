@@ -10,8 +10,9 @@ use Rattle.writable.specs.declared.Refusal.TheVariants as writings
 use Rattle.from_old.specs.declared.Refusal.TheVariants as old_lines
 use Rattle.to_old.specs.declared.Refusal.TheVariants as ways_back
 use Rattle.sheet.specs.declared.Refusal.TheVariants as sheets
+use Rattle.lent_sheet.specs.declared.Refusal.TheVariants as calls
 use Rattle.numbering.specs.Entries.{Refused, number, word}
-use Rattle.numbering.specs.Entries.Refused.{answer, ring, writing, old_line, way_back, adding, place}
+use Rattle.numbering.specs.Entries.Refused.{answer, ring, writing, old_line, way_back, adding, place, call}
 use Rattle.numbering.specs.laws.Words.{words}
 
 fault_listed : (f : Fault) → faults.word f ≡ get_or words (faults.number f) []
@@ -45,6 +46,11 @@ listed (adding (sheets.Faulty f)) = fault_listed f
 listed (adding sheets.Beyond) = refl
 listed (adding sheets.Full) = refl
 listed (place v) = refl
+listed (call (calls.Unadded (sheets.Faulty f))) = fault_listed f
+listed (call (calls.Unadded sheets.Beyond)) = refl
+listed (call (calls.Unadded sheets.Full)) = refl
+listed (call calls.Vacant) = refl
+listed (call calls.Space) = refl
 
 pub one_word : (r q : Refused) → number r ≡ number q → word r ≡ word q
 one_word r q e = listed r ∙ ap (λ (n : ℕ). get_or words n []) e ∙ sym (listed q)
